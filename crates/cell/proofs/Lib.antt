@@ -1,0 +1,4 @@
+pub mod Fields
+pub mod Linear
+pub mod Table
+pub mod Division

@@ -10,6 +10,8 @@ use lib.Dec.{T, eqb, eqb→eq, lit<}
 use lib.Pow.{pow-pos, split}
 use lib.Bits.{bitXor, bitAnd, xor-self, xor-comm, xor-assoc, xor-shr, xor-mod, xor-block, xor-shifted, and-shr, and-mod}
 use Rattle.cell.specs.Linear.{Linear}
+use Rattle.cell.specs.Tests.{both}
+use Rattle.cell.proofs.Table.{both-left, both-right}
 
 pub lin-zero : (f : ℕ → ℕ) → Linear f → f 0 ≡ 0
 lin-zero f h = ap f (sym (xor-self 0)) ∙ h 0 0 ∙ xor-self (f 0)
@@ -105,18 +107,6 @@ pub lin-and : (c : ℕ) (f : ℕ → ℕ) → Linear f → Linear (λ x. bitAnd 
 lin-and c f h a b = ap (λ (x : ℕ). bitAnd x c) (h a b) ∙ and-xor (f a) (f b) c
 
 -- the test at 2 ^ 0 .. 2 ^ (n - 1), and what it says
-abbrev pub both : Bool → Bool → Bool
-both true b = b
-both false b = false
-
-pub both-left : (a b : Bool) → T (both a b) → T a
-both-left true b t = tt
-both-left false b t = t
-
-pub both-right : (a b : Bool) → T (both a b) → T b
-both-right true b t = t
-both-right false b t = absurd t
-
 abbrev pub agree : ℕ → (ℕ → ℕ) → (ℕ → ℕ) → Bool
 agree zero f g = true
 agree (suc n) f g = both (eqb (f (2 ^ n)) (g (2 ^ n))) (agree n f g)

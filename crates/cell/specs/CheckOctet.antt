@@ -2,10 +2,9 @@
 --
 --   checkOctet h     the check octet (HEC) of the header h
 --   syndrome h c     of the header h with c received in the place of its check octet; 0 where c is its check octet
---   syndrome40 w     the same of the 40 bits together, the header on top
 --   agreeing s       the low six bits, HEC6 to HEC1, of the syndrome s are zero
 use mathlib.Core.Bool.{Bool}
-use Prim.Native.Nat.{ℕ, _*_, _/_, _%_, _^_}
+use Prim.Native.Nat.{ℕ, _*_, _%_, _^_}
 use lib.Bits.{bitXor}
 use lib.Dec.{eqb}
 use Rattle.cell.specs.Polynomial.{remainder}
@@ -17,8 +16,6 @@ checkOctet h = bitXor (remainder 32 (h * 2 ^ 8)) 0x55
 abbrev pub syndrome : ℕ → ℕ → ℕ
 syndrome h c = bitXor (checkOctet h) c
 
-abbrev pub syndrome40 : ℕ → ℕ
-syndrome40 w = syndrome (w / 2 ^ 8) (w % 2 ^ 8)
 
 abbrev pub agreeing : ℕ → Bool
 agreeing s = eqb (s % 2 ^ 6) 0

@@ -1,7 +1,9 @@
 pub mod Refusal
 pub mod Header
 pub mod Linear
+pub mod Tests
 pub mod Polynomial
 pub mod CheckOctet
 pub mod Verdict
+pub mod VerdictTest
 pub mod Errors

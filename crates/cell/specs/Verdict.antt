@@ -1,29 +1,35 @@
--- What a syndrome says of the 40 bits that left it. Their bits count from 0, the first sent, to 39.
+-- What a syndrome says of the 40 bits that left it. They count from 0, the first sent, to 39.
 --
---   errorAt i      the syndrome that bit i leaves where it alone is wrong
+--   place i        bit i alone of 40; there is none from 40 on
+--   errorAt i      the syndrome that bit i leaves where it alone came wrong
 --   Rule s v       v is the verdict on the syndrome s
 --   verdictOf s    that verdict, found by trying the 40 bits
---   entry t s      the entry of a table of verdicts at s
---   ruled s v      Rule s v as a test
---   everyRuled t   the test of a whole table
+--   entry t s      the entry at s of a table t of verdicts
 use mathlib.Core.Path.{_≡_}
-use mathlib.Core.Bool.{Bool, true, false, cond, not}
-use mathlib.Core.List.{List, [], _∷_}
-use Prim.Native.Nat.{ℕ, zero, suc, _-_, _^_, _<_}
-use lib.Dec.{eqb, ltb}
+use mathlib.Core.Bool.{cond}
+use mathlib.Core.List.{List}
+use Prim.Native.Nat.{ℕ, zero, suc, _/_, _^_, _<_}
+use lib.Dec.{eqb}
 use lib.ListN.{getD}
 use Rattle.cell.specs.Polynomial.{remainder}
 use Rattle.cell.specs.declared.verdict.Verdict.{Verdict}
 use Rattle.cell.specs.declared.verdict.Verdict.the-variants.{Clean, OneWrongBit, PastMending}
 
-unfoldable pub errorAt : ℕ → ℕ
-errorAt i = remainder 32 (2 ^ (39 - i))
+abbrev pub place : ℕ → ℕ
+place i = 2 ^ 39 / 2 ^ i
 
--- clean exactly at 0; bit i exactly at its error's syndrome; past mending everywhere else
-abbrev pub Rule : ℕ → Verdict → Type 0
-Rule s Clean = s ≡ 0
-Rule s (OneWrongBit i) = (i < 40) × (s ≡ errorAt i)
-Rule s PastMending = (s ≡ 0 → ⊥) × ((i : ℕ) → i < 40 → s ≡ errorAt i → ⊥)
+unfoldable pub errorAt : ℕ → ℕ
+errorAt i = remainder 32 (place i)
+
+-- the syndrome is neither 0 nor that of one wrong bit
+abbrev pub NoSuch : ℕ → Type 0
+NoSuch s = (s ≡ 0 → ⊥) × ((i : ℕ) → i < 40 → s ≡ errorAt i → ⊥)
+
+-- clean exactly at 0, bit i exactly at the syndrome of the single error at i, past mending everywhere else
+pub record Rule (s : ℕ) (v : Verdict) : Type 0 where
+  pub clean : (v ≡ Clean → s ≡ 0) × (s ≡ 0 → v ≡ Clean)
+  pub bit : (i : ℕ) → (v ≡ OneWrongBit i → (i < 40) × (s ≡ errorAt i)) × (i < 40 → s ≡ errorAt i → v ≡ OneWrongBit i)
+  pub past : (v ≡ PastMending → NoSuch s) × (NoSuch s → v ≡ PastMending)
 
 unfoldable pub wrongBelow : ℕ → ℕ → Verdict
 wrongBelow zero s = PastMending

@@ -1,0 +1,9 @@
+use Prim.Native.Nat.{_^_, _<_}
+use native.Mathlib.Nat.{div-eq-of-lt}
+use mathlib.Core.Path.{sym}
+use native.Mathlib.Omega.{arith}
+use lib.Pow.{pow-lt}
+use Rattle.cell.proofs.line_header.place.Needs as need
+
+pub returns-else-bit-lt40 : need.returns-else-bit-lt40
+returns-else-bit-lt40 c = let h : 39 < c .args .bit = omega arith in sym (div-eq-of-lt (pow-lt h))

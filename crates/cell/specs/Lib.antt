@@ -7,3 +7,5 @@ pub mod CheckOctet
 pub mod Verdict
 pub mod VerdictTest
 pub mod Errors
+pub mod Sorting
+pub mod WorkedValues

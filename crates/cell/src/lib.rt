@@ -3,4 +3,6 @@ pub mod check_octet;
 pub mod header;
 pub mod line_header;
 pub mod refusal;
+pub mod sorting;
 pub mod verdict;
+pub mod worked_values;

@@ -3,11 +3,11 @@ ghost use mathlib.Core.Path.{_≡_};
 ghost use Rattle.cell.specs.Header.{fieldsOf, joined, connectionOf, kindOf, reserved};
 
 // The 32 header bits of a cell, as a number from the top.
-#[derive(Clone, Copy, PartialEq, Eq, Debug, Drop)]
+#[derive(Clone, Copy, PartialEq, Eq, Drop)]
 pub struct Header(pub u32);
 
 // The fields of a header, from the top.
-#[derive(Clone, Copy, PartialEq, Eq, Debug, Drop)]
+#[derive(Clone, Copy, PartialEq, Eq, Drop)]
 pub struct Fields {
     // generic flow control, 4 bits
     pub gfc: u8,
@@ -22,7 +22,7 @@ pub struct Fields {
 }
 
 // What a cell is for, by its header alone.
-#[derive(Clone, Copy, PartialEq, Eq, Debug, Drop)]
+#[derive(Clone, Copy, PartialEq, Eq, Drop)]
 pub enum Kind {
     // fills the line where nothing waits
     Idle,

@@ -4,12 +4,11 @@ ghost use Rattle.cell.specs.CheckOctet.{syndrome};
 ghost use Rattle.cell.specs.Errors.{bits40, ofBits, turned, OneTold, TwoPast, Restored};
 ghost use Rattle.cell.specs.Verdict.{verdictOf, place};
 use crate::header::Header;
-use crate::header::HeaderDebug;
 use crate::header::HeaderPartialEq;
 use crate::verdict::Verdict;
 
 // A header, and what came in the place of its check octet.
-#[derive(Clone, Copy, PartialEq, Eq, Debug, Drop)]
+#[derive(Clone, Copy, PartialEq, Eq, Drop)]
 pub struct LineHeader {
     pub header: Header,
     pub hec: u8,

@@ -6,7 +6,7 @@ ghost use Rattle.cell.specs.Verdict.{Rule, verdictOf, entry};
 ghost use Rattle.cell.specs.VerdictTest.{everyRuled};
 
 // The verdict on a header as received.
-#[derive(Clone, Copy, PartialEq, Eq, Debug, Drop)]
+#[derive(Clone, Copy, PartialEq, Eq, Drop)]
 pub enum Verdict {
     // the header came with its own check octet
     Clean,

@@ -50,7 +50,7 @@ unfolding product quotient remainder
 divided p h =
     basis (λ p. p) (λ p. bitXor (product 32 (quotient 32 p) generator) (remainder 32 p)) lin-id
     (lin-xor (λ p. product 32 (quotient 32 p) generator) (remainder 32)
-      (lin-comp (λ q. product 32 q generator) (quotient 32) (lin-product 32 generator) (lin-quotient 32)) (lin-remainder 32))
+    (lin-comp (λ q. product 32 q generator) (quotient 32) (lin-product 32 generator) (lin-quotient 32)) (lin-remainder 32))
     40 tt p h
 
 multiple-leaves-0 : (q : ℕ) → q < 2 ^ 32 → remainder 32 (product 32 q generator) ≡ 0
@@ -104,9 +104,9 @@ lin-folded =
     let ly : Linear y = lin-shr 8 copies lin-copies in
     lin-and 0xff (λ x. bitXor (bitXor (bitXor (copies x) (y x * 2 ^ 2 % 2 ^ 16)) (y x * 2 ^ 1 % 2 ^ 16)) (y x))
     (lin-xor (λ x. bitXor (bitXor (copies x) (y x * 2 ^ 2 % 2 ^ 16)) (y x * 2 ^ 1 % 2 ^ 16)) y
-      (lin-xor (λ x. bitXor (copies x) (y x * 2 ^ 2 % 2 ^ 16)) (λ x. y x * 2 ^ 1 % 2 ^ 16)
-        (lin-xor copies (λ x. y x * 2 ^ 2 % 2 ^ 16) lin-copies (moved 2 y ly)) (moved 1 y ly))
-      ly)
+    (lin-xor (λ x. bitXor (copies x) (y x * 2 ^ 2 % 2 ^ 16)) (λ x. y x * 2 ^ 1 % 2 ^ 16)
+    (lin-xor copies (λ x. y x * 2 ^ 2 % 2 ^ 16) lin-copies (moved 2 y ly)) (moved 1 y ly))
+    ly)
 
 lin-octet-remainder : Linear (λ x. remainder 8 (x * 2 ^ 8))
 lin-octet-remainder = lin-comp (remainder 8) (λ x. x * 2 ^ 8) (lin-remainder 8) (lin-shl 8 (λ x. x) lin-id)
@@ -154,7 +154,7 @@ pub by-octets : (h : ℕ) (l : List ℕ) {r1 r2 r3 r4 : ℕ} → h < 2 ^ 32
 unfolding four onwards first
 by-octets h l b e e1 e2 e3 e4 =
     let at : (k : ℕ) → getD l k 0 ≡ getD (h / 2 ^ 24 % 2 ^ 8 ∷ h / 2 ^ 16 % 2 ^ 8 ∷ h / 2 ^ 8 % 2 ^ 8 ∷ h % 2 ^ 8 ∷ []) k 0 =
-          λ k. ap (λ (l : List ℕ). getD l k 0) e in
+    λ k. ap (λ (l : List ℕ). getD l k 0) e in
     let on : (x y : ℕ) → ℕ = λ x y. remainder 8 (bitXor x y * 2 ^ 8) in
     let f1 : _ ≡ first h = e1 ∙ ap (λ (x : ℕ). remainder 8 (x * 2 ^ 8)) (at 0) in
     let f2 = e2 ∙ ap₂ on f1 (at 1) in

@@ -59,12 +59,12 @@ two-cases (suc (suc q)) h = absurd (let z : ⊥ = omega arith in z)
 bit-times : (c p q : ℕ) → p < 2 → q < 2 → bitXor p q * c ≡ bitXor (p * c) (q * c)
 bit-times c p q hp hq =
     elim (two-cases p hp) [
-      inl e ↦ ap (λ (z : ℕ). bitXor z q * c) e ∙ sym (ap (λ (z : ℕ). bitXor (z * c) (q * c)) e ∙ ap (λ (z : ℕ). bitXor z (q * c)) (zero-mul c))
-    | inr e ↦ elim (two-cases q hq) [
-        inl d ↦ ap₂ (λ (y z : ℕ). bitXor y z * c) e d
-          ∙ sym (ap₂ (λ (y z : ℕ). bitXor (y * c) (z * c)) e d ∙ xor-comm (1 * c) (0 * c) ∙ ap (λ (z : ℕ). bitXor z (1 * c)) (zero-mul c))
-      | inr d ↦ ap₂ (λ (y z : ℕ). bitXor y z * c) e d ∙ zero-mul c
-          ∙ sym (ap₂ (λ (y z : ℕ). bitXor (y * c) (z * c)) e d ∙ xor-self (1 * c))
+      | inl e ↦ ap (λ (z : ℕ). bitXor z q * c) e ∙ sym (ap (λ (z : ℕ). bitXor (z * c) (q * c)) e ∙ ap (λ (z : ℕ). bitXor z (q * c)) (zero-mul c))
+      | inr e ↦ elim (two-cases q hq) [
+        | inl d ↦ ap₂ (λ (y z : ℕ). bitXor y z * c) e d
+            ∙ sym (ap₂ (λ (y z : ℕ). bitXor (y * c) (z * c)) e d ∙ xor-comm (1 * c) (0 * c) ∙ ap (λ (z : ℕ). bitXor z (1 * c)) (zero-mul c))
+        | inr d ↦ ap₂ (λ (y z : ℕ). bitXor y z * c) e d ∙ zero-mul c
+            ∙ sym (ap₂ (λ (y z : ℕ). bitXor (y * c) (z * c)) e d ∙ xor-self (1 * c))
       ]
     ]
 
@@ -96,12 +96,12 @@ two-pos = zero-lt-suc 1
 pub and-xor : (a b c : ℕ) → bitAnd (bitXor a b) c ≡ bitXor (bitAnd a c) (bitAnd b c)
 and-xor =
     bin-ind (λ (n : ℕ). (b c : ℕ) → bitAnd (bitXor n b) c ≡ bitXor (bitAnd n c) (bitAnd b c)) (λ b c. refl)
-      (λ n ih b c. by-halves (bitAnd (bitXor n b) c) (bitXor (bitAnd n c) (bitAnd b c))
-        (and-shr (bitXor n b) c 1 ∙ ap (λ (x : ℕ). bitAnd x (c / 2)) (xor-shr n b 1) ∙ ih (b / 2) (c / 2)
-          ∙ sym (xor-shr (bitAnd n c) (bitAnd b c) 1 ∙ ap₂ bitXor (and-shr n c 1) (and-shr b c 1)))
-        (and-mod (bitXor n b) c 1 ∙ ap (λ (x : ℕ). bitAnd x (c % 2)) (xor-mod n b 1)
-          ∙ digit-and (c % 2) (n % 2) (b % 2) (mod-lt c two-pos) (mod-lt n two-pos) (mod-lt b two-pos)
-          ∙ sym (xor-mod (bitAnd n c) (bitAnd b c) 1 ∙ ap₂ bitXor (and-mod n c 1) (and-mod b c 1))))
+    (λ n ih b c. by-halves (bitAnd (bitXor n b) c) (bitXor (bitAnd n c) (bitAnd b c))
+    (and-shr (bitXor n b) c 1 ∙ ap (λ (x : ℕ). bitAnd x (c / 2)) (xor-shr n b 1) ∙ ih (b / 2) (c / 2)
+    ∙ sym (xor-shr (bitAnd n c) (bitAnd b c) 1 ∙ ap₂ bitXor (and-shr n c 1) (and-shr b c 1)))
+    (and-mod (bitXor n b) c 1 ∙ ap (λ (x : ℕ). bitAnd x (c % 2)) (xor-mod n b 1)
+    ∙ digit-and (c % 2) (n % 2) (b % 2) (mod-lt c two-pos) (mod-lt n two-pos) (mod-lt b two-pos)
+    ∙ sym (xor-mod (bitAnd n c) (bitAnd b c) 1 ∙ ap₂ bitXor (and-mod n c 1) (and-mod b c 1))))
 
 pub lin-and : (c : ℕ) (f : ℕ → ℕ) → Linear f → Linear (λ x. bitAnd (f x) c)
 lin-and c f h a b = ap (λ (x : ℕ). bitAnd x c) (h a b) ∙ and-xor (f a) (f b) c
@@ -124,12 +124,12 @@ module _ (f g : ℕ → ℕ) (hf : Linear f) (hg : Linear g) where
       let one : f (2 ^ n) ≡ g (2 ^ n) = eqb→eq (f (2 ^ n)) (g (2 ^ n)) (both-left (eqb (f (2 ^ n)) (g (2 ^ n))) (agree n f g) t) in
       let parts : a ≡ bitXor (a / 2 ^ n * 2 ^ n) (a % 2 ^ n) = sym (xor-shifted (a / 2 ^ n) n (a % 2 ^ n) (mod-lt a (pow-pos n)) ∙ split a n) in
       let top : f (a / 2 ^ n * 2 ^ n) ≡ g (a / 2 ^ n * 2 ^ n) =
-            elim (two-cases (a / 2 ^ n) (top-lt n a h)) [
-              inl e ↦ ap (λ (q : ℕ). f (q * 2 ^ n)) e ∙ ap f (zero-mul (2 ^ n)) ∙ lin-zero f hf
-                ∙ sym (ap (λ (q : ℕ). g (q * 2 ^ n)) e ∙ ap g (zero-mul (2 ^ n)) ∙ lin-zero g hg)
-            | inr e ↦ ap (λ (q : ℕ). f (q * 2 ^ n)) e ∙ ap f (one-mul (2 ^ n)) ∙ one
-                ∙ sym (ap (λ (q : ℕ). g (q * 2 ^ n)) e ∙ ap g (one-mul (2 ^ n)))
-            ] in
+      elim (two-cases (a / 2 ^ n) (top-lt n a h)) [
+        | inl e ↦ ap (λ (q : ℕ). f (q * 2 ^ n)) e ∙ ap f (zero-mul (2 ^ n)) ∙ lin-zero f hf
+            ∙ sym (ap (λ (q : ℕ). g (q * 2 ^ n)) e ∙ ap g (zero-mul (2 ^ n)) ∙ lin-zero g hg)
+        | inr e ↦ ap (λ (q : ℕ). f (q * 2 ^ n)) e ∙ ap f (one-mul (2 ^ n)) ∙ one
+            ∙ sym (ap (λ (q : ℕ). g (q * 2 ^ n)) e ∙ ap g (one-mul (2 ^ n)))
+      ] in
       ap f parts ∙ hf (a / 2 ^ n * 2 ^ n) (a % 2 ^ n)
       ∙ ap₂ bitXor top low
       ∙ sym (ap g parts ∙ hg (a / 2 ^ n * 2 ^ n) (a % 2 ^ n))

@@ -40,29 +40,30 @@ unfolding pairs noSuch
 pair-none i j h k =
     let s : ℕ = bitXor (errorAt i) (errorAt j) in
     let at : T (noSuch errors s) =
-          subst (λ (x : ℕ). T (noSuch errors x)) (ap₂ bitXor (error-listed i (omega arith)) (error-listed j k))
-          (below-at j (λ i. noSuch errors (bitXor (getD errors i 0) (getD errors j 0)))
-            (below-at 40 (λ j. below j (λ i. noSuch errors (bitXor (getD errors i 0) (getD errors j 0)))) all-pairs j k) i h) in
+    subst (λ (x : ℕ). T (noSuch errors x)) (ap₂ bitXor (error-listed i (omega arith)) (error-listed j k))
+    (below-at j (λ i. noSuch errors (bitXor (getD errors i 0) (getD errors j 0)))
+    (below-at 40 (λ j. below j (λ i. noSuch errors (bitXor (getD errors i 0) (getD errors j 0)))) all-pairs j k) i h) in
     let not0 : T (not (eqb s 0)) = both-left (not (eqb s 0)) (below 40 (λ k. not (eqb s (getD errors k 0)))) at in
     let rest : T (below 40 (λ k. not (eqb s (getD errors k 0)))) =
-          both-right (not (eqb s 0)) (below 40 (λ k. not (eqb s (getD errors k 0)))) at in
-    ( not-eqb s 0 not0
-    , λ m l e. not-eqb s (getD errors m 0) (below-at 40 (λ k. not (eqb s (getD errors k 0))) rest m l) (e ∙ sym (error-listed m l)))
+    both-right (not (eqb s 0)) (below 40 (λ k. not (eqb s (getD errors k 0)))) at in (
+      not-eqb s 0 not0,
+      λ m l e. not-eqb s (getD errors m 0) (below-at 40 (λ k. not (eqb s (getD errors k 0))) rest m l) (e ∙ sym (error-listed m l)),
+    )
 
 pub two-none : (i j : ℕ) → i < 40 → j < 40 → (i ≡ j → ⊥) → NoSuch (bitXor (errorAt i) (errorAt j))
 two-none i j h k apart =
     elim (decLt i j) [
-      yes l ↦ pair-none i j l k
-    | no l ↦ subst NoSuch (xor-comm (errorAt j) (errorAt i)) (pair-none j i (omega arith) h)
+      | yes l ↦ pair-none i j l k
+      | no l ↦ subst NoSuch (xor-comm (errorAt j) (errorAt i)) (pair-none j i (omega arith) h)
     ]
 
 pub errors-differ : (i j : ℕ) → i < 40 → j < 40 → errorAt i ≡ errorAt j → i ≡ j
 errors-differ i j h k e =
     elim (decLt i j) [
-      yes l ↦ absurd (pair-none i j l k .0 (ap (λ (x : ℕ). bitXor x (errorAt j)) e ∙ xor-self (errorAt j)))
-    | no l ↦ elim (decLt j i) [
-        yes m ↦ absurd (pair-none j i m h .0 (ap (λ (x : ℕ). bitXor (errorAt j) x) e ∙ xor-self (errorAt j)))
-      | no m ↦ omega arith
+      | yes l ↦ absurd (pair-none i j l k .0 (ap (λ (x : ℕ). bitXor x (errorAt j)) e ∙ xor-self (errorAt j)))
+      | no l ↦ elim (decLt j i) [
+        | yes m ↦ absurd (pair-none j i m h .0 (ap (λ (x : ℕ). bitXor (errorAt j) x) e ∙ xor-self (errorAt j)))
+        | no m ↦ omega arith
       ]
     ]
 

@@ -22,8 +22,8 @@ pub below-at : (n : ℕ) (f : ℕ → Bool) → T (below n f) → (k : ℕ) → 
 below-at zero f t k h = absurd (not-suc-le-zero h)
 below-at (suc n) f t k h =
     elim (decLt k n) [
-      yes l ↦ below-at n f (both-right (f n) (below n f) t) k l
-    | no l ↦ let e : n ≡ k = omega arith in subst (λ (m : ℕ). T (f m)) e (both-left (f n) (below n f) t)
+      | yes l ↦ below-at n f (both-right (f n) (below n f) t) k l
+      | no l ↦ let e : n ≡ k = omega arith in subst (λ (m : ℕ). T (f m)) e (both-left (f n) (below n f) t)
     ]
 
 module _ {A : Type 0} (f : ℕ → A → Bool) (d : A) where

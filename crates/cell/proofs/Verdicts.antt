@@ -29,18 +29,23 @@ rule-of s Clean z =
     record {
       clean = (λ e. z, λ e. refl);
       bit = λ i. ((λ e. absurd (let n : _≡_ {A = ℕ} 0 1 = cc in omega arith)), λ h e. absurd (error-not-0 i h (sym e ∙ z)));
-      past = ((λ e. absurd (let n : _≡_ {A = ℕ} 0 1 = cc in omega arith)), λ n. absurd (n .0 z)) }
+      past = ((λ e. absurd (let n : _≡_ {A = ℕ} 0 1 = cc in omega arith)), λ n. absurd (n .0 z));
+    }
 rule-of s (OneWrongBit k) (b, z) =
     record {
       clean = ((λ e. absurd (let n : _≡_ {A = ℕ} 0 1 = cc in omega arith)), λ e. absurd (error-not-0 k b (sym z ∙ e)));
-      bit = λ i. ((λ e. let k-i : k ≡ i = cc in subst (λ (m : ℕ). (m < 40) × (s ≡ errorAt m)) k-i (b, z)),
-                  λ h e. ap OneWrongBit (errors-differ k i b h (sym z ∙ e)));
-      past = ((λ e. absurd (let n : _≡_ {A = ℕ} 0 1 = cc in omega arith)), λ n. absurd (n .1 k b z)) }
+      bit = λ i. (
+        (λ e. let k-i : k ≡ i = cc in subst (λ (m : ℕ). (m < 40) × (s ≡ errorAt m)) k-i (b, z)),
+        λ h e. ap OneWrongBit (errors-differ k i b h (sym z ∙ e)),
+      );
+      past = ((λ e. absurd (let n : _≡_ {A = ℕ} 0 1 = cc in omega arith)), λ n. absurd (n .1 k b z));
+    }
 rule-of s PastMending n =
     record {
       clean = ((λ e. absurd (let m : _≡_ {A = ℕ} 0 1 = cc in omega arith)), λ e. absurd (n .0 e));
       bit = λ i. ((λ e. absurd (let m : _≡_ {A = ℕ} 0 1 = cc in omega arith)), λ h e. absurd (n .1 i h e));
-      past = ((λ e. n), λ m. refl) }
+      past = ((λ e. n), λ m. refl);
+    }
 
 only : (s : ℕ) (v w : Verdict) → Rule s v → Says s w → v ≡ w
 only s v Clean r z = r .clean .1 z
@@ -63,21 +68,21 @@ unfolding wrongBelow
 wrong-below-says zero s h z none = (z, λ j l. none j (omega arith) l)
 wrong-below-says (suc n) s h z none =
     let by : (b : Bool) → eqb s (errorAt n) ≡ b → Says s (cond b (OneWrongBit n) (wrongBelow n s)) =
-          λ b. elim b as (λ v. eqb s (errorAt n) ≡ v → Says s (cond v (OneWrongBit n) (wrongBelow n s))) [
-            true ↦ λ e. (h, same s (errorAt n) e)
-          | false ↦ λ e. wrong-below-says n s (omega arith) z
-              (λ j l m d. elim (le-cases n j l) [ inl lt ↦ none j lt m d | inr eq ↦ differs s (errorAt n) e (d ∙ ap errorAt (sym eq)) ])
-          ] in
+    λ b. elim b as (λ v. eqb s (errorAt n) ≡ v → Says s (cond v (OneWrongBit n) (wrongBelow n s))) [
+      | true ↦ λ e. (h, same s (errorAt n) e)
+      | false ↦ λ e. wrong-below-says n s (omega arith) z
+          (λ j l m d. elim (le-cases n j l) [ inl lt ↦ none j lt m d | inr eq ↦ differs s (errorAt n) e (d ∙ ap errorAt (sym eq)) ])
+    ] in
     by (eqb s (errorAt n)) refl
 
 pub verdict-says : (s : ℕ) → Says s (verdictOf s)
 unfolding verdictOf
 verdict-says s =
     let by : (b : Bool) → eqb s 0 ≡ b → Says s (cond b Clean (wrongBelow 40 s)) =
-          λ b. elim b as (λ v. eqb s 0 ≡ v → Says s (cond v Clean (wrongBelow 40 s))) [
-            true ↦ λ e. same s 0 e
-          | false ↦ λ e. wrong-below-says 40 s (le-refl 40) (differs s 0 e) (λ j l m d. absurd (let z : ⊥ = omega arith in z))
-          ] in
+    λ b. elim b as (λ v. eqb s 0 ≡ v → Says s (cond v Clean (wrongBelow 40 s))) [
+      | true ↦ λ e. same s 0 e
+      | false ↦ λ e. wrong-below-says 40 s (le-refl 40) (differs s 0 e) (λ j l m d. absurd (let z : ⊥ = omega arith in z))
+    ] in
     by (eqb s 0) refl
 
 pub verdict-rule : (s : ℕ) → Rule s (verdictOf s)
@@ -90,11 +95,12 @@ ruled-says s Clean t = eqb→eq s 0 t
 ruled-says s (OneWrongBit i) t =
     let b : i < 40 = ltb→lt i 40 (both-left (ltb i 40) (eqb s (powerX (39 - i))) t) in
     (b, eqb→eq s (powerX (39 - i)) (both-right (ltb i 40) (eqb s (powerX (39 - i))) t) ∙ power-is i b)
-ruled-says s PastMending t =
-    ( not-eqb s 0 (both-left (not (eqb s 0)) (below 40 (λ i. not (eqb s (powerX (39 - i))))) t)
-    , λ i b e. not-eqb s (powerX (39 - i))
-        (below-at 40 (λ i. not (eqb s (powerX (39 - i)))) (both-right (not (eqb s 0)) (below 40 (λ i. not (eqb s (powerX (39 - i))))) t) i b)
-        (e ∙ sym (power-is i b)))
+ruled-says s PastMending t = (
+  not-eqb s 0 (both-left (not (eqb s 0)) (below 40 (λ i. not (eqb s (powerX (39 - i))))) t),
+  λ i b e. not-eqb s (powerX (39 - i))
+      (below-at 40 (λ i. not (eqb s (powerX (39 - i)))) (both-right (not (eqb s 0)) (below 40 (λ i. not (eqb s (powerX (39 - i))))) t) i b)
+      (e ∙ sym (power-is i b)),
+)
 
 module _ (table : List Verdict) (s : ℕ) (v : Verdict) (is : v ≡ entry table s) (within : s < length table) (passed : everyRuled table ≡ true) where
   pub table-rule : Rule s v

@@ -23,8 +23,8 @@ unfolding remainder
 header-and-octet w h =
     basis (λ w. bitXor (remainder 32 (w / 2 ^ 8 * 2 ^ 8)) (w % 2 ^ 8)) (remainder 32)
     (lin-xor (λ w. remainder 32 (w / 2 ^ 8 * 2 ^ 8)) (λ w. w % 2 ^ 8)
-      (lin-comp (remainder 32) (λ w. w / 2 ^ 8 * 2 ^ 8) (lin-remainder 32) (lin-shl 8 (λ w. w / 2 ^ 8) (lin-shr 8 (λ w. w) lin-id)))
-      (lin-mod 8 (λ w. w) lin-id))
+    (lin-comp (remainder 32) (λ w. w / 2 ^ 8 * 2 ^ 8) (lin-remainder 32) (lin-shl 8 (λ w. w / 2 ^ 8) (lin-shr 8 (λ w. w) lin-id)))
+    (lin-mod 8 (λ w. w) lin-id))
     (lin-remainder 32) 40 tt w h
 
 xor-swap-last : (a b c : ℕ) → bitXor (bitXor a b) c ≡ bitXor (bitXor a c) b
@@ -60,9 +60,9 @@ module _ (l : LineHeader) (h : l .hec < 2 ^ 8) where
   unfolding errorAt
   two-past w i j r b c apart e =
       let is : syndrome (l .header .0) (l .hec) ≡ bitXor (errorAt i) (errorAt j) =
-            by-bits l h ∙ ap (λ (x : ℕ). syndrome (x / 2 ^ 8) (x % 2 ^ 8)) (e ∙ xor-assoc w (place i) (place j))
-            ∙ error-leaves w (bitXor (place i) (place j)) r (xor-lt 40 (place i) (place j) (place-lt i) (place-lt j))
-            ∙ lin-remainder 32 (place i) (place j) in
+      by-bits l h ∙ ap (λ (x : ℕ). syndrome (x / 2 ^ 8) (x % 2 ^ 8)) (e ∙ xor-assoc w (place i) (place j))
+      ∙ error-leaves w (bitXor (place i) (place j)) r (xor-lt 40 (place i) (place j) (place-lt i) (place-lt j))
+      ∙ lin-remainder 32 (place i) (place j) in
       verdict-rule (syndrome (l .header .0) (l .hec)) .past .1
       ((λ z. two-none i j b c apart .0 (sym is ∙ z)), λ k d z. two-none i j b c apart .1 k d (sym is ∙ z))
 

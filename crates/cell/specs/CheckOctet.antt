@@ -16,6 +16,5 @@ checkOctet h = bitXor (remainder 32 (h * 2 ^ 8)) 0x55
 abbrev pub syndrome : ℕ → ℕ → ℕ
 syndrome h c = bitXor (checkOctet h) c
 
-
 abbrev pub agreeing : ℕ → Bool
 agreeing s = eqb (s % 2 ^ 6) 0

@@ -3,6 +3,7 @@ pub mod check_octet;
 pub mod header;
 pub mod line_header;
 pub mod refusal;
+pub mod sizes;
 pub mod sorting;
 pub mod verdict;
 pub mod worked_values;

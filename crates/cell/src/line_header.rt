@@ -5,6 +5,7 @@ ghost use Rattle.cell.specs.Errors.{bits40, ofBits, turned, OneTold, TwoPast, 
 ghost use Rattle.cell.specs.Verdict.{verdictOf, place};
 use crate::header::Header;
 use crate::header::HeaderPartialEq;
+use crate::sizes::HEADER_BITS;
 use crate::verdict::Verdict;
 
 // A header, and what came in the place of its check octet.
@@ -19,7 +20,10 @@ impl LineHeader {
     pub fn from_bits(word: u64) -> LineHeader
         ensures { λ r. ⌜ r ≡ ofBits word ⌝ }
     {
-        LineHeader { header: Header(((word >> 8) % 0x1_0000_0000) as u32), hec: (word % 0x100) as u8 }
+        LineHeader {
+            header: Header(((word >> 8) % 0x1_0000_0000) as u32),
+            hec: (word % 0x100) as u8,
+        }
     }
 
     // The 40 bits as a word, the first sent on top.
@@ -70,5 +74,9 @@ impl LineHeader {
 fn place(bit: u8) -> u64
     ensures { λ r. ⌜ r ≡ place bit ⌝ }
 {
-    if bit < 40 { 0x80_0000_0000 >> bit } else { 0 }
+    if bit < HEADER_BITS {
+        0x80_0000_0000 >> bit
+    } else {
+        0
+    }
 }

@@ -4,6 +4,7 @@ ghost use Rattle.cell.specs.Sorting.{Cuts, Sorts};
 use crate::header::Header;
 use crate::header::Kind;
 use crate::refusal::Refusal;
+use crate::sizes::PAYLOAD_OCTETS;
 
 // A cell by its kind. The payload is the part of the cell's octets that begins at octet 4.
 #[derive(Clone, Copy, Drop)]
@@ -18,11 +19,13 @@ pub fn sort_cell(octets: &[u8]) -> Result<SortedCell<'_>, Refusal>
     ensures { λ r. ⌜ Sorts (octets .entry) r ⌝ }
 {
     let Parts { header, payload } = cut(octets)?;
-    Ok(match header.kind() {
-        Kind::Idle => SortedCell::Idle,
-        Kind::F3 => SortedCell::F3(payload),
-        Kind::User => SortedCell::User(header, payload),
-    })
+    Ok(
+        match header.kind() {
+            Kind::Idle => SortedCell::Idle,
+            Kind::F3 => SortedCell::F3(payload),
+            Kind::User => SortedCell::User(header, payload),
+        },
+    )
 }
 
 #[derive(Clone, Copy, Drop)]
@@ -35,11 +38,14 @@ struct Parts<'a> {
 fn cut(octets: &[u8]) -> Result<Parts<'_>, Refusal>
     ensures { λ r. ⌜ Cuts (octets .entry) r ⌝ }
 {
-    if octets.len() != 52 {
-        return Err(Refusal::WrongLength);
-    }
     let [a, b, c, d, payload @ ..] = octets else {
         return Err(Refusal::WrongLength);
     };
-    Ok(Parts { header: Header(u32::from_be_bytes([*a, *b, *c, *d])), payload })
+    if payload.len() != PAYLOAD_OCTETS {
+        return Err(Refusal::WrongLength);
+    }
+    Ok(Parts {
+        header: Header(u32::from_be_bytes([*a, *b, *c, *d])),
+        payload,
+    })
 }

@@ -14,11 +14,21 @@ mod tests {
     use cell::verdict::VerdictPartialEq;
     use std::test::*;
 
-    const HEADERS: [u32; 6] = [0x0000_0000, 0x0000_0001, 0x0000_0009, 0x0000_0640, 0xbecf_ede9, 0xffff_ffff];
+    const HEADERS: [u32; 6] = [
+        0x0000_0000,
+        0x0000_0001,
+        0x0000_0009,
+        0x0000_0640,
+        0xbecf_ede9,
+        0xffff_ffff,
+    ];
 
     fn sent(header: u32) -> LineHeader {
         let header = Header(header);
-        LineHeader { header, hec: header.check_octet() }
+        LineHeader {
+            header,
+            hec: header.check_octet(),
+        }
     }
 
     // Each of the 40 single errors is told and mended.
@@ -77,7 +87,10 @@ mod tests {
         match sort_cell(octets) {
             Ok(SortedCell::Idle) => Answer::Idle,
             Ok(SortedCell::F3(payload)) => Answer::F3(payload.first().copied().unwrap_or(0)),
-            Ok(SortedCell::User(header, payload)) => Answer::User(header.0, payload.first().copied().unwrap_or(0)),
+            Ok(SortedCell::User(header, payload)) => Answer::User(
+                header.0,
+                payload.first().copied().unwrap_or(0),
+            ),
             Err(refusal) => Answer::Refused(refusal.number()),
         }
     }

@@ -10,6 +10,6 @@ pub returns : need.returns
 returns c =
     let h : ℕ = c .args .header in
     let e : c .times-x8-4 .result ≡ remainder 32 (h * 2 ^ 8) =
-          by-octets h (c .to-be-bytes .result) (search needs) (c .to-be-bytes .ensures) (c .times-x8 .ensures) (c .times-x8-2 .ensures)
-          (c .times-x8-3 .ensures) (c .times-x8-4 .ensures) in
+    by-octets h (c .to-be-bytes .result) (search needs) (c .to-be-bytes .ensures) (c .times-x8 .ensures) (c .times-x8-2 .ensures)
+    (c .times-x8-3 .ensures) (c .times-x8-4 .ensures) in
     record { value = e; division = subst (TheRemainder (h * 2 ^ 8)) (sym e) (the-remainder (h * 2 ^ 8) (search needs)) }

@@ -8,7 +8,8 @@ use borrow.Author.Needs.{needs}
 use Rattle.cell.proofs.sorting.cut.Needs as need
 
 pub returns : need.returns
-returns c =
-    ( search needs
-    , search needs
-    , (refl, add-comm 4 (c .args .octets .ptr .1), take-all _ _ (simp length-drop (omega arith))))
+returns c = (
+  search needs,
+  search needs,
+  (refl, add-comm 4 (c .args .octets .ptr .1), take-all _ _ (simp length-drop (omega arith))),
+)

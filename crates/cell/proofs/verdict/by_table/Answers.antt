@@ -10,4 +10,5 @@ returns c =
     let within : c .args .syndrome < length (c .args .table .now) = search needs in
     record {
       value = table-value (c .args .table .now) (c .args .syndrome) (c .look-up .result) (c .look-up .ensures) within (c .pre);
-      rule = table-rule (c .args .table .now) (c .args .syndrome) (c .look-up .result) (c .look-up .ensures) within (c .pre) }
+      rule = table-rule (c .args .table .now) (c .args .syndrome) (c .look-up .result) (c .look-up .ensures) within (c .pre);
+    }

@@ -8,4 +8,5 @@ pub returns : need.returns
 returns c =
     record {
       value = c .cut .ensures;
-      whole = ap joined (c .cut .ensures) ∙ joined-fields (c .args .self .0) (search needs) }
+      whole = ap joined (c .cut .ensures) ∙ joined-fields (c .args .self .0) (search needs);
+    }

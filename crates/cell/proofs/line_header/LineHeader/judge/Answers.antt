@@ -11,4 +11,5 @@ returns c =
     record {
       value = c .told .ensures;
       one = subst (OneTold (bits40 (c .args .self))) (sym (c .told .ensures)) (one-told (c .args .self) h);
-      two = subst (TwoPast (bits40 (c .args .self))) (sym (c .told .ensures)) (two-past (c .args .self) h) }
+      two = subst (TwoPast (bits40 (c .args .self))) (sym (c .told .ensures)) (two-past (c .args .self) h);
+    }

@@ -9,5 +9,6 @@ returns c =
     record {
       value = c .turn .ensures;
       restored =
-        subst (λ (y : LineHeader). Restored (bits40 (c .args .self)) (c .args .bit) (bits40 y)) (sym (c .turn .ensures))
-        (restored (bits40 (c .args .self)) (c .args .bit)) }
+          subst (λ (y : LineHeader). Restored (bits40 (c .args .self)) (c .args .bit) (bits40 y)) (sym (c .turn .ensures))
+          (restored (bits40 (c .args .self)) (c .args .bit));
+    }

@@ -1,4 +1,4 @@
--- Long division by the generator: it is linear, it finds the one remainder, and it may go octet by octet.
+-- Long division by the divisor: it is linear, it finds the one remainder, and it may go octet by octet.
 use mathlib.Core.Path.{_≡_, refl, sym, ap, ap₂, subst, _∙_}
 use mathlib.Core.List.{List, [], _∷_}
 use Prim.Native.Nat.{ℕ, zero, suc, _+_, _*_, _/_, _%_, _^_, _<_}
@@ -9,7 +9,7 @@ use lib.Dec.{T}
 use lib.ListN.{getD}
 use lib.Pow.{pow-pos}
 use Rattle.cell.specs.Linear.{Linear}
-use Rattle.cell.specs.Polynomial.{generator, coefficient, product, remainder, Divides, TheRemainder}
+use Rattle.cell.specs.Polynomial.{divisor, coefficient, product, remainder, Division, TheRemainder}
 use Rattle.cell.proofs.Linear.{lin-id, lin-zero-word, lin-xor, lin-comp, lin-shr, lin-shl, lin-mod, lin-bit, lin-and, agree, basis}
 
 lin-coefficient : (i c : ℕ) → Linear (λ p. coefficient i p * c)
@@ -21,43 +21,43 @@ lin-product zero q = lin-zero-word
 lin-product (suc n) q = lin-xor (λ p. product n p q) (λ p. coefficient n p * (q * 2 ^ n)) (lin-product n q) (lin-coefficient n (q * 2 ^ n))
 
 -- one step of the division
-lin-taken : (n : ℕ) → Linear (λ p. bitXor p (coefficient (8 + n) p * (generator * 2 ^ n)))
-lin-taken n = lin-xor (λ p. p) (λ p. coefficient (8 + n) p * (generator * 2 ^ n)) lin-id (lin-coefficient (8 + n) (generator * 2 ^ n))
+lin-taken : (n : ℕ) → Linear (λ p. bitXor p (coefficient (8 + n) p * (divisor * 2 ^ n)))
+lin-taken n = lin-xor (λ p. p) (λ p. coefficient (8 + n) p * (divisor * 2 ^ n)) lin-id (lin-coefficient (8 + n) (divisor * 2 ^ n))
 
 pub lin-remainder : (n : ℕ) → Linear (remainder n)
 unfolding remainder
 lin-remainder zero = lin-id
-lin-remainder (suc n) = lin-comp (remainder n) (λ p. bitXor p (coefficient (8 + n) p * (generator * 2 ^ n))) (lin-remainder n) (lin-taken n)
+lin-remainder (suc n) = lin-comp (remainder n) (λ p. bitXor p (coefficient (8 + n) p * (divisor * 2 ^ n))) (lin-remainder n) (lin-taken n)
 
 quotient : ℕ → ℕ → ℕ
 quotient zero p = 0
-quotient (suc n) p = bitXor (coefficient (8 + n) p * 2 ^ n) (quotient n (bitXor p (coefficient (8 + n) p * (generator * 2 ^ n))))
+quotient (suc n) p = bitXor (coefficient (8 + n) p * 2 ^ n) (quotient n (bitXor p (coefficient (8 + n) p * (divisor * 2 ^ n))))
 
 lin-quotient : (n : ℕ) → Linear (quotient n)
 unfolding quotient
 lin-quotient zero = lin-zero-word
 lin-quotient (suc n) =
-    lin-xor (λ p. coefficient (8 + n) p * 2 ^ n) (λ p. quotient n (bitXor p (coefficient (8 + n) p * (generator * 2 ^ n))))
+    lin-xor (λ p. coefficient (8 + n) p * 2 ^ n) (λ p. quotient n (bitXor p (coefficient (8 + n) p * (divisor * 2 ^ n))))
     (lin-coefficient (8 + n) (2 ^ n))
-    (lin-comp (quotient n) (λ p. bitXor p (coefficient (8 + n) p * (generator * 2 ^ n))) (lin-quotient n) (lin-taken n))
+    (lin-comp (quotient n) (λ p. bitXor p (coefficient (8 + n) p * (divisor * 2 ^ n))) (lin-quotient n) (lin-taken n))
 
 -- a linear function whose values at the powers of two are below 2 ^ k has all its values there
 small : (f : ℕ → ℕ) (k n : ℕ) → Linear f → T (agree n (λ x. f x % 2 ^ k) f) → (x : ℕ) → x < 2 ^ n → f x < 2 ^ k
 small f k n h t x b = subst (λ (y : ℕ). y < 2 ^ k) (basis (λ x. f x % 2 ^ k) f (lin-mod k f h) h n t x b) (mod-lt (f x) (pow-pos k))
 
-divided : (p : ℕ) → p < 2 ^ 40 → p ≡ bitXor (product 32 (quotient 32 p) generator) (remainder 32 p)
+divided : (p : ℕ) → p < 2 ^ 40 → p ≡ bitXor (product 32 (quotient 32 p) divisor) (remainder 32 p)
 unfolding product quotient remainder
 divided p h =
-    basis (λ p. p) (λ p. bitXor (product 32 (quotient 32 p) generator) (remainder 32 p)) lin-id
-    (lin-xor (λ p. product 32 (quotient 32 p) generator) (remainder 32)
-    (lin-comp (λ q. product 32 q generator) (quotient 32) (lin-product 32 generator) (lin-quotient 32)) (lin-remainder 32))
+    basis (λ p. p) (λ p. bitXor (product 32 (quotient 32 p) divisor) (remainder 32 p)) lin-id
+    (lin-xor (λ p. product 32 (quotient 32 p) divisor) (remainder 32)
+    (lin-comp (λ q. product 32 q divisor) (quotient 32) (lin-product 32 divisor) (lin-quotient 32)) (lin-remainder 32))
     40 tt p h
 
-multiple-leaves-0 : (q : ℕ) → q < 2 ^ 32 → remainder 32 (product 32 q generator) ≡ 0
+multiple-leaves-0 : (q : ℕ) → q < 2 ^ 32 → remainder 32 (product 32 q divisor) ≡ 0
 unfolding product remainder
 multiple-leaves-0 q h =
-    basis (λ q. remainder 32 (product 32 q generator)) (λ q. 0)
-    (lin-comp (remainder 32) (λ q. product 32 q generator) (lin-remainder 32) (lin-product 32 generator)) lin-zero-word 32 tt q h
+    basis (λ q. remainder 32 (product 32 q divisor)) (λ q. 0)
+    (lin-comp (remainder 32) (λ q. product 32 q divisor) (lin-remainder 32) (lin-product 32 divisor)) lin-zero-word 32 tt q h
 
 octet-leaves-itself : (r : ℕ) → r < 2 ^ 8 → remainder 32 r ≡ r
 unfolding remainder
@@ -71,9 +71,9 @@ quotient-lt : (p : ℕ) → p < 2 ^ 40 → quotient 32 p < 2 ^ 32
 unfolding quotient
 quotient-lt = small (quotient 32) 32 40 (lin-quotient 32) tt
 
-only : (p q s : ℕ) → Divides p q s → s ≡ remainder 32 p
+only : (p q s : ℕ) → Division p q s → s ≡ remainder 32 p
 only p q s (k, b, e) =
-    sym (ap (remainder 32) e ∙ lin-remainder 32 (product 32 q generator) s ∙ ap₂ bitXor (multiple-leaves-0 q k) (octet-leaves-itself s b))
+    sym (ap (remainder 32) e ∙ lin-remainder 32 (product 32 q divisor) s ∙ ap₂ bitXor (multiple-leaves-0 q k) (octet-leaves-itself s b))
 
 pub the-remainder : (p : ℕ) → p < 2 ^ 40 → TheRemainder p (remainder 32 p)
 the-remainder p h = ((quotient 32 p, (quotient-lt p h, remainder-lt p h, divided p h)), only p)

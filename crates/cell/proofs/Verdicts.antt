@@ -10,12 +10,12 @@ use native.Mathlib.Omega.{arith}
 use lib.Dec.{T, eqb, eqb→eq, ltb, ltb→lt}
 use lib.ListN.{length, getD}
 use Rattle.cell.specs.Tests.{both, below}
-use Rattle.cell.specs.Verdict.{errorAt, NoSuch, Rule, wrongBelow, verdictOf, entry}
+use Rattle.cell.specs.Verdict.{errorAt, NoSuch, Rule, TwoErrors, wrongBelow, verdictOf, entry}
 use Rattle.cell.specs.VerdictTest.{powerX, ruled, everyRuled}
 use Rattle.cell.specs.declared.verdict.Verdict.{Verdict}
 use Rattle.cell.specs.declared.verdict.Verdict.the-variants.{Clean, OneWrongBit, PastMending}
 use Rattle.cell.proofs.Table.{both-left, both-right, below-at, every-at, same-eqb, not-eqb}
-use Rattle.cell.proofs.SingleErrors.{errors-differ, error-not-0, power-is}
+use Rattle.cell.proofs.SingleErrors.{errors-differ, error-not-0, two-none, power-is}
 
 -- the rule one way: what the verdict says of the syndrome
 abbrev pub Says : ℕ → Verdict → Type 0
@@ -106,6 +106,13 @@ module _ (table : List Verdict) (s : ℕ) (v : Verdict) (is : v ≡ entry table 
   pub table-rule : Rule s v
   unfolding entry
   table-rule = subst (Rule s) (sym is) (rule-of s (getD table s Clean) (ruled-says s (getD table s Clean) (every-at ruled Clean table (subst T (sym passed) tt) s within)))
+
+  pub table-two : TwoErrors s v
+  table-two i j h k apart e =
+      table-rule .past .1 (
+        (λ z. two-none i j h k apart .0 (sym e ∙ z)),
+        λ m l z. two-none i j h k apart .1 m l (sym e ∙ z),
+      )
 
   pub table-value : v ≡ verdictOf s
   table-value = only s v (verdictOf s) table-rule (verdict-says s)

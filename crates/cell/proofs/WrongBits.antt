@@ -9,7 +9,7 @@ use lib.Pow.{shr-le, high, low, recompose}
 use Rattle.cell.specs.Polynomial.{remainder}
 use Rattle.cell.specs.CheckOctet.{syndrome}
 use Rattle.cell.specs.Verdict.{place, errorAt, verdictOf}
-use Rattle.cell.specs.Errors.{bits40, ofBits, turned, Right, OneTold, TwoPast, Restored}
+use Rattle.cell.specs.LineHeader.{bits40, ofBits, turned, Codeword, OneTold, TwoPast, Restored}
 use Rattle.cell.specs.declared.line_header.LineHeader.{LineHeader}
 use Rattle.cell.specs.declared.verdict.Verdict.the-variants.{OneWrongBit, PastMending}
 use Rattle.cell.proofs.Linear.{lin-id, lin-xor, lin-comp, lin-shr, lin-shl, lin-mod, basis}
@@ -35,7 +35,7 @@ syndrome-is w h =
     xor-swap-last (remainder 32 (w / 2 ^ 8 * 2 ^ 8)) 0x55 (w % 2 ^ 8) ∙ ap (λ (x : ℕ). bitXor x 0x55) (header-and-octet w h)
 
 -- wrong bits e leave their own remainder
-pub error-leaves : (w e : ℕ) → Right w → e < 2 ^ 40 → syndrome (bitXor w e / 2 ^ 8) (bitXor w e % 2 ^ 8) ≡ remainder 32 e
+pub error-leaves : (w e : ℕ) → Codeword w → e < 2 ^ 40 → syndrome (bitXor w e / 2 ^ 8) (bitXor w e % 2 ^ 8) ≡ remainder 32 e
 error-leaves w e (hw, clean) he =
     syndrome-is (bitXor w e) (xor-lt 40 w e hw he) ∙ ap (λ (x : ℕ). bitXor x 0x55) (lin-remainder 32 w e)
     ∙ xor-swap-last (remainder 32 w) (remainder 32 e) 0x55
@@ -66,7 +66,7 @@ module _ (l : LineHeader) (h : l .hec < 2 ^ 8) where
       verdict-rule (syndrome (l .header .0) (l .hec)) .past .1
       ((λ z. two-none i j b c apart .0 (sym is ∙ z)), λ k d z. two-none i j b c apart .1 k d (sym is ∙ z))
 
-turned-twice : (w i : ℕ) → turned (turned w i) i ≡ w
+pub turned-twice : (w i : ℕ) → turned (turned w i) i ≡ w
 turned-twice w i = xor-assoc w (place i) (place i) ∙ ap (bitXor w) (xor-self (place i)) ∙ xor-zero-r w
 
 pub bits-of : (w : ℕ) → w < 2 ^ 40 → bits40 (ofBits w) ≡ w

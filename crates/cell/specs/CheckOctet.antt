@@ -2,11 +2,8 @@
 --
 --   checkOctet h     the check octet (HEC) of the header h
 --   syndrome h c     of the header h with c received in the place of its check octet; 0 where c is its check octet
---   agreeing s       the low six bits, HEC6 to HEC1, of the syndrome s are zero
-use mathlib.Core.Bool.{Bool}
-use Prim.Native.Nat.{ℕ, _*_, _%_, _^_}
+use Prim.Native.Nat.{ℕ, _*_, _^_}
 use lib.Bits.{bitXor}
-use lib.Dec.{eqb}
 use Rattle.cell.specs.Polynomial.{remainder}
 
 -- the remainder of x^8 times the header, with 0x55 added so that a run of zeros is not a header
@@ -15,6 +12,3 @@ checkOctet h = bitXor (remainder 32 (h * 2 ^ 8)) 0x55
 
 abbrev pub syndrome : ℕ → ℕ → ℕ
 syndrome h c = bitXor (checkOctet h) c
-
-abbrev pub agreeing : ℕ → Bool
-agreeing s = eqb (s % 2 ^ 6) 0

@@ -6,6 +6,6 @@ pub mod Polynomial
 pub mod CheckOctet
 pub mod Verdict
 pub mod VerdictTest
-pub mod Errors
+pub mod LineHeader
 pub mod Sorting
 pub mod WorkedValues

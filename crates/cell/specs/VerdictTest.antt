@@ -1,8 +1,8 @@
 -- The test of a whole table of verdicts. It is computed over the 256 entries, and a lemma turns it into the rule at each.
 -- Nothing is believed of it: only the table that is lent to the look-up has to pass it.
 --
---   timesX p       x times p, of a degree below 8, by the generator
---   powerX n       what x^n leaves by the generator
+--   timesX p       x times p, of a degree below 8, by the divisor
+--   powerX n       what x^n leaves by the divisor
 --   ruled s v      the verdict v stands where it belongs at s
 --   everyRuled t   so does each entry of the table t
 use mathlib.Core.Bool.{Bool, cond, not}
@@ -11,12 +11,12 @@ use Prim.Native.Nat.{ℕ, zero, suc, _*_, _-_}
 use lib.Bits.{bitXor}
 use lib.Dec.{eqb, ltb}
 use Rattle.cell.specs.Tests.{both, below, every}
-use Rattle.cell.specs.Polynomial.{generator}
+use Rattle.cell.specs.Polynomial.{divisor}
 use Rattle.cell.specs.declared.verdict.Verdict.{Verdict}
 use Rattle.cell.specs.declared.verdict.Verdict.the-variants.{Clean, OneWrongBit, PastMending}
 
 abbrev pub timesX : ℕ → ℕ
-timesX p = cond (ltb p 128) (2 * p) (bitXor (2 * p) generator)
+timesX p = cond (ltb p 128) (2 * p) (bitXor (2 * p) divisor)
 
 abbrev pub powerX : ℕ → ℕ
 powerX zero = 1

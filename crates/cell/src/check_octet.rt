@@ -3,6 +3,7 @@ ghost use mathlib.Core.Path.{_≡_};
 ghost use Prim.Native.Nat.{ℕ, _*_, _^_};
 ghost use lib.Bits.{bitXor};
 ghost use Rattle.cell.specs.CheckOctet.{checkOctet};
+ghost use Rattle.cell.specs.Linear.{Linear};
 ghost use Rattle.cell.specs.Polynomial.{remainder, TheRemainder};
 use crate::header::Header;
 
@@ -11,6 +12,7 @@ impl Header {
     pub fn check_octet(self) -> u8
         ensures value { λ r. ⌜ r ≡ checkOctet (self .0) ⌝ }
         ensures division { λ r. ⌜ ((s : ℕ) × TheRemainder (self .0 * 2 ^ 8) s × (r ≡ bitXor s 0x55)) ⌝ }
+        ensures linear { λ _. ⌜ Linear (remainder 32) ⌝ }
     {
         header_remainder(self.0) ^ 0x55
     }
@@ -20,6 +22,7 @@ impl Header {
 fn header_remainder(header: u32) -> u8
     ensures value { λ r. ⌜ r ≡ remainder 32 (header * 2 ^ 8) ⌝ }
     ensures division { λ r. ⌜ TheRemainder (header * 2 ^ 8) r ⌝ }
+    ensures linear { λ _. ⌜ Linear (remainder 32) ⌝ }
 {
     let [a, b, c, d] = header.to_be_bytes();
     times_x8(times_x8(times_x8(times_x8(a) ^ b) ^ c) ^ d)

@@ -1,11 +1,10 @@
 // The first five octets of a cell as a line carries them, and what to make of them.
 ghost use mathlib.Core.Path.{_≡_};
-ghost use Rattle.cell.specs.CheckOctet.{syndrome};
-ghost use Rattle.cell.specs.Errors.{bits40, ofBits, turned, OneTold, TwoPast, Restored};
+ghost use Rattle.cell.specs.LineHeader.{bits40, ofBits, syndromeOf, turned, OneTold, TwoPast, Restored};
 ghost use Rattle.cell.specs.Verdict.{verdictOf, place};
 use crate::header::Header;
 use crate::header::HeaderPartialEq;
-use crate::sizes::HEADER_BITS;
+use crate::sizes::LINE_HEADER_BITS;
 use crate::verdict::Verdict;
 
 // A header, and what came in the place of its check octet.
@@ -35,14 +34,14 @@ impl LineHeader {
 
     // The check octet of the header against what came in its place: 0 where they are the same.
     pub fn syndrome(self) -> u8
-        ensures { λ r. ⌜ r ≡ syndrome (self .header .0) (self .hec) ⌝ }
+        ensures { λ r. ⌜ r ≡ syndromeOf self ⌝ }
     {
         self.header.check_octet() ^ self.hec
     }
 
     // The verdict on the 40 bits. One wrong bit is told, and two are found out.
     pub fn judge(self) -> Verdict
-        ensures value { λ r. ⌜ r ≡ verdictOf (syndrome (self .header .0) (self .hec)) ⌝ }
+        ensures value { λ r. ⌜ r ≡ verdictOf (syndromeOf self) ⌝ }
         ensures one { λ r. ⌜ OneTold (bits40 self) r ⌝ }
         ensures two { λ r. ⌜ TwoPast (bits40 self) r ⌝ }
     {
@@ -50,7 +49,7 @@ impl LineHeader {
     }
 
     fn told(self) -> Verdict
-        ensures { λ r. ⌜ r ≡ verdictOf (syndrome (self .header .0) (self .hec)) ⌝ }
+        ensures { λ r. ⌜ r ≡ verdictOf (syndromeOf self) ⌝ }
     {
         Verdict::of(self.syndrome())
     }
@@ -74,7 +73,7 @@ impl LineHeader {
 fn place(bit: u8) -> u64
     ensures { λ r. ⌜ r ≡ place bit ⌝ }
 {
-    if bit < HEADER_BITS {
+    if bit < LINE_HEADER_BITS {
         0x80_0000_0000 >> bit
     } else {
         0

@@ -1,12 +1,11 @@
-// How many octets a cell has, and how many bits the line carries of it.
-
-// The header without its check octet.
-pub const HEADER_OCTETS: usize = 4;
+// How many octets and bits a cell and its parts have.
 
 pub const PAYLOAD_OCTETS: usize = 48;
 // Header and payload, as sources, sinks and sorting have them.
 pub const CELL_OCTETS: usize = 52;
 // A cell on the line, with its check octet.
 pub const LINE_OCTETS: usize = 53;
-// The bits of a header on the line, with its check octet.
-pub const HEADER_BITS: u8 = 40;
+// A header on the line, with its check octet.
+pub const LINE_HEADER_OCTETS: usize = 5;
+
+pub const LINE_HEADER_BITS: u8 = 40;

@@ -1,8 +1,7 @@
 // What a syndrome says of the 40 bits that left it.
 ghost use mathlib.Core.Path.{_≡_};
 ghost use mathlib.Core.Bool.{true};
-ghost use Rattle.cell.specs.CheckOctet.{agreeing};
-ghost use Rattle.cell.specs.Verdict.{Rule, verdictOf, entry};
+ghost use Rattle.cell.specs.Verdict.{agreeing, Rule, TwoErrors, verdictOf, entry};
 ghost use Rattle.cell.specs.VerdictTest.{everyRuled};
 
 // The verdict on a header as received.
@@ -10,17 +9,18 @@ ghost use Rattle.cell.specs.VerdictTest.{everyRuled};
 pub enum Verdict {
     // the header came with its own check octet
     Clean,
-    // this one bit came wrong: 0, the first sent, to 39
+    // the syndrome is that of this one wrong bit: 0, the first sent, to 39
     OneWrongBit(u8),
-    // neither: two or more bits came wrong
+    // neither: more than one bit came wrong
     PastMending,
 }
 
 impl Verdict {
-    // The verdict on a syndrome.
+    // The verdict on a syndrome. Nothing is promised of three or more wrong bits: they may look like one, or none.
     pub fn of(syndrome: u8) -> Verdict
         ensures value { λ r. ⌜ r ≡ verdictOf syndrome ⌝ }
         ensures rule { λ r. ⌜ Rule syndrome r ⌝ }
+        ensures two { λ r. ⌜ TwoErrors syndrome r ⌝ }
     {
         by_table(&VERDICTS, syndrome)
     }
@@ -38,6 +38,7 @@ fn by_table(table: &[Verdict; 256], syndrome: u8) -> Verdict
     requires { ⌜ everyRuled (now table) ≡ true ⌝ }
     ensures value { λ r. ⌜ r ≡ verdictOf syndrome ⌝ }
     ensures rule { λ r. ⌜ Rule syndrome r ⌝ }
+    ensures two { λ r. ⌜ TwoErrors syndrome r ⌝ }
 {
     look_up(table, syndrome)
 }

@@ -9,9 +9,9 @@ use Rattle.std.proofs.shelf.Ways.{tells}
 use Rattle.std.specs.declared.option.Option.the-variants.{None}
 use Rattle.std.specs.declared.result.Result.{Result}
 use Rattle.std.specs.declared.result.Result.the-variants.{Ok, Err}
-use Rattle.cell.specs.Errors.{ofBits}
+use Rattle.cell.specs.LineHeader.{ofBits}
 use Rattle.headers.specs.Capture.{characterOf, Spells, nothing, blank, octet, Stops, notHex, notHexSecond, blankInside, ends, Cut, Faulty, cut, few, many, Reads, NoHeader, ofOctets}
-use Rattle.headers.specs.Reading.{start, begun, after, counted, readFrom}
+use Rattle.headers.specs.Reading.{start, begun, after, endsWith, readFrom}
 use Rattle.headers.specs.declared.capture.CaptureLine.{CaptureLine}
 use Rattle.headers.specs.declared.capture.CaptureLine.the-variants.{Empty, Header, Malformed}
 use Rattle.headers.specs.declared.capture.Fault.{Fault}
@@ -51,9 +51,9 @@ read-front (octet {a} {b} {x} {y} {line} {os} p q s) k w n rest =
     ∙ read-front s (k + 1) (w % 2 ^ 32 * 2 ^ 8 + (x * 16 + y)) (n + 1 + 1) rest
     ∙ moved (pushes (w % 2 ^ 32 * 2 ^ 8 + (x * 16 + y)) os) rest (omega arith) (omega arith)
 
-read-spelt : {line os : List ℕ} → Spells line os → readFrom start 0 line ≡ counted (length os) (pushes 0 os)
+read-spelt : {line os : List ℕ} → Spells line os → readFrom start 0 line ≡ endsWith (length os) (pushes 0 os)
 read-spelt {line} {os} s =
-    ap (readFrom start 0) (sym (append-nil line)) ∙ read-front s 0 0 0 [] ∙ ap (λ (k : ℕ). counted k (pushes 0 os)) (zero-add (length os))
+    ap (readFrom start 0) (sym (append-nil line)) ∙ read-front s 0 0 0 [] ∙ ap (λ (k : ℕ). endsWith k (pushes 0 os)) (zero-add (length os))
 
 -- where no octet comes, reading stops with that fault
 read-stop : {n : ℕ} {rest : List ℕ} {f : Fault} → Stops n rest f → (k w : ℕ) → readFrom (between k w) n rest ≡ Malformed f
@@ -73,11 +73,11 @@ read-cut {f = f} k =
     ∙ moved (pushes 0 (k .octets)) (k .rest) refl (omega arith)
     ∙ read-stop (k .stops) (0 + length (k .octets)) (pushes 0 (k .octets))
 
-counted-few : (n w : ℕ) → 0 < n → n < 5 → counted n w ≡ Malformed (TooFew n)
-counted-few n w p q = grind (arith, tells)
+endsWith-few : (n w : ℕ) → 0 < n → n < 5 → endsWith n w ≡ Malformed (TooFew n)
+endsWith-few n w p q = grind (arith, tells)
 
-counted-many : (n w : ℕ) → 5 < n → counted n w ≡ Malformed (TooMany n)
-counted-many n w p = grind (arith, tells)
+endsWith-many : (n w : ℕ) → 5 < n → endsWith n w ≡ Malformed (TooMany n)
+endsWith-many n w p = grind (arith, tells)
 
 digit-small : (c x : ℕ) → characterOf c ≡ Digit x → x < 16
 digit-small c x e = grind (arith, tells)
@@ -155,7 +155,7 @@ either-way (b ∷ line) =
     let shorter = either-way line in
     (shorter .1 b, λ a. two-characters a (characterOf a) b refl (shorter .1 b) (shorter .0))
 
-spelt-reads : (line os : List ℕ) → Spells line os → Reads line (counted (length os) (pushes 0 os))
+spelt-reads : (line os : List ℕ) → Spells line os → Reads line (endsWith (length os) (pushes 0 os))
 spelt-reads line [] s = s
 spelt-reads line (a ∷ []) s = few s (omega arith) (omega arith)
 spelt-reads line (a ∷ b ∷ []) s = few s (omega arith) (omega arith)
@@ -165,7 +165,7 @@ spelt-reads line (a ∷ b ∷ c ∷ d ∷ e ∷ []) s = record { a = a; b = b; c
 spelt-reads line (a ∷ b ∷ c ∷ d ∷ e ∷ f ∷ os) s =
     let n = length (a ∷ b ∷ c ∷ d ∷ e ∷ f ∷ os) in
     let more : 5 < n = omega arith in
-    subst (Reads line) (sym (counted-many n (pushes 0 (a ∷ b ∷ c ∷ d ∷ e ∷ f ∷ os)) more)) (many s more)
+    subst (Reads line) (sym (endsWith-many n (pushes 0 (a ∷ b ∷ c ∷ d ∷ e ∷ f ∷ os)) more)) (many s more)
 
 -- the answer is what the line is
 pub reading-reads : (line : List ℕ) → Reads line (readFrom start 0 line)
@@ -183,16 +183,16 @@ only-reading line (Malformed f) k = faulty k
   where
     faulty : {f : Fault} → Faulty line f → Malformed f ≡ readFrom start 0 line
     faulty (cut k) = sym (read-cut k)
-    faulty (few {os} s p q) = sym (read-spelt s ∙ counted-few (length os) (pushes 0 os) p q)
-    faulty (many {os} s p) = sym (read-spelt s ∙ counted-many (length os) (pushes 0 os) p)
+    faulty (few {os} s p q) = sym (read-spelt s ∙ endsWith-few (length os) (pushes 0 os) p q)
+    faulty (many {os} s p) = sym (read-spelt s ∙ endsWith-many (length os) (pushes 0 os) p)
 
 pub no-header : (line : List ℕ) (f : Fault) → readFrom start 0 line ≡ Malformed f → NoHeader line
-no-header line f bad os s = counted-neither (length os) (pushes 0 os) f (sym (read-spelt s) ∙ bad)
+no-header line f bad os s = endsWith-neither (length os) (pushes 0 os) f (sym (read-spelt s) ∙ bad)
   where
-    counted-neither : (n w : ℕ) (f : Fault) → counted n w ≡ Malformed f → (n ≡ 0 → ⊥) × (n ≡ 5 → ⊥)
-    counted-neither n w f bad = (
-      λ e. let clash = sym (ap (λ (m : ℕ). counted m w) e) ∙ bad in let z : _≡_ {A = ℕ} 0 1 = cc in omega arith,
-      λ e. let clash = sym (ap (λ (m : ℕ). counted m w) e) ∙ bad in let z : _≡_ {A = ℕ} 0 1 = cc in omega arith,
+    endsWith-neither : (n w : ℕ) (f : Fault) → endsWith n w ≡ Malformed f → (n ≡ 0 → ⊥) × (n ≡ 5 → ⊥)
+    endsWith-neither n w f bad = (
+      λ e. let clash = sym (ap (λ (m : ℕ). endsWith m w) e) ∙ bad in let z : _≡_ {A = ℕ} 0 1 = cc in omega arith,
+      λ e. let clash = sym (ap (λ (m : ℕ). endsWith m w) e) ∙ bad in let z : _≡_ {A = ℕ} 0 1 = cc in omega arith,
     )
 
 pub read-on : (r : Reading) (n c : ℕ) (l : List ℕ) (s : Reading) → Ok s ≡ after r n (characterOf c) → readFrom r n (c ∷ l) ≡ readFrom s (n + 1) l

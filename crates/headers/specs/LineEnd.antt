@@ -2,6 +2,7 @@
 --
 --   EndsIn c line     the last octet of line is c
 --   BodyOf line rest  rest is line without its line end
+--   stands line k c   the octet c stands k before the end of line
 --   endOctets line    how many octets the line end has
 use mathlib.Core.Path.{_≡_}
 use mathlib.Core.Bool.{Bool, false, cond}
@@ -19,7 +20,6 @@ pub data BodyOf (line rest : List ℕ) : Type 0 where
   lf : line ≡ rest ++ (10 ∷ []) → (EndsIn 13 rest → ⊥) → BodyOf line rest
   none : line ≡ rest → (EndsIn 10 line → ⊥) → BodyOf line rest
 
--- c stands k before the end
 abbrev pub stands : List ℕ → ℕ → ℕ → Bool
 stands line k c = cond (leb k (length line)) (eqb (getD line (length line - k) 0) c) false
 

@@ -5,8 +5,8 @@
 use mathlib.Core.List.{List}
 use Prim.Native.Nat.{ℕ}
 use lib.Chars.{codes}
-use Rattle.cell.specs.CheckOctet.{syndrome}
 use Rattle.cell.specs.Header.{fieldsOf, connectionOf, kindOf}
+use Rattle.cell.specs.LineHeader.{syndromeOf}
 use Rattle.cell.specs.Verdict.{verdictOf}
 use Rattle.cell.specs.declared.header.Kind.{Kind}
 use Rattle.cell.specs.declared.header.Kind.the-variants.{Idle, F3, User}
@@ -27,6 +27,6 @@ reportOf n l =
       fields = fieldsOf (l .header .0);
       connection = connectionOf (l .header .0);
       kind = kindOf (l .header .0);
-      syndrome = syndrome (l .header .0) (l .hec);
-      finding = findingOf l (verdictOf (syndrome (l .header .0) (l .hec)));
+      syndrome = syndromeOf l;
+      finding = findingOf l (verdictOf (syndromeOf l));
     }

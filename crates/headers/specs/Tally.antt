@@ -1,6 +1,7 @@
 -- Counts over a capture. Each counter stops at its top.
 --
 --   none                   nothing is counted yet
+--   top                    where a counter stops
 --   raised n               the counter n, one up, if it is not at its top
 --   countedHeader f t      the tally t with one header more, found to be f; the other counters stay
 --   counted s t            the tally t with a line of which s is said

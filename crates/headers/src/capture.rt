@@ -5,9 +5,7 @@ ghost use Rattle.headers.specs.Capture.{characterOf, Reads, NoHeader};
 ghost use Rattle.headers.specs.Reading.{start, after, atEnd, readFrom};
 use crate::character::Character;
 use cell::line_header::LineHeader;
-
-// The octets of a header and of its check octet.
-const HEADER_OCTETS: usize = 5;
+use cell::sizes::LINE_HEADER_OCTETS;
 
 // What a line of a capture is.
 #[derive(Clone, Copy, Drop)]
@@ -20,7 +18,7 @@ pub enum CaptureLine {
     Malformed(Fault),
 }
 
-// Why a line is no header. Columns count from 1.
+// Why a line is no header. Columns count octets, from 1.
 #[derive(Clone, Copy, Drop)]
 pub enum Fault {
     // the character in this column is no hexadecimal digit
@@ -110,8 +108,8 @@ impl Reading {
         match (self.half, self.octets) {
             (Some(_), _) => CaptureLine::Malformed(Fault::HalfOctet(before)),
             (None, 0) => CaptureLine::Empty,
-            (None, HEADER_OCTETS) => CaptureLine::Header(LineHeader::from_bits(self.word)),
-            (None, octets) if octets < HEADER_OCTETS => CaptureLine::Malformed(Fault::TooFew(
+            (None, LINE_HEADER_OCTETS) => CaptureLine::Header(LineHeader::from_bits(self.word)),
+            (None, octets) if octets < LINE_HEADER_OCTETS => CaptureLine::Malformed(Fault::TooFew(
                 octets,
             )),
             (None, octets) => CaptureLine::Malformed(Fault::TooMany(octets)),

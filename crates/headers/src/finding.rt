@@ -1,7 +1,6 @@
 // What is found out of a header as received: its verdict, and what it was where one bit came wrong.
 ghost use mathlib.Core.Path.{_≡_};
-ghost use Rattle.cell.specs.CheckOctet.{syndrome};
-ghost use Rattle.cell.specs.Errors.{bits40};
+ghost use Rattle.cell.specs.LineHeader.{bits40, syndromeOf};
 ghost use Rattle.cell.specs.Verdict.{verdictOf};
 ghost use Rattle.headers.specs.Finding.{findingOf, CleanSent, OneMended, TwoFound};
 use cell::header::Kind;
@@ -12,7 +11,7 @@ use cell::verdict::Verdict;
 pub enum Finding {
     // the header came with its own check octet
     Clean,
-    // this bit came wrong: the header as it was sent, and its kind
+    // the syndrome is that of this one wrong bit: the header with it turned, and its kind
     OneWrongBit(u8, LineHeader, Kind),
     // more than one bit came wrong
     PastMending,
@@ -21,7 +20,7 @@ pub enum Finding {
 impl Finding {
     // What is found out of a header as received. One wrong bit is mended, and two are found out.
     pub fn of(received: LineHeader) -> Finding
-        ensures value { λ r. ⌜ r ≡ findingOf received (verdictOf (syndrome (received .header .0) (received .hec))) ⌝ }
+        ensures value { λ r. ⌜ r ≡ findingOf received (verdictOf (syndromeOf received)) ⌝ }
         ensures clean { λ r. ⌜ CleanSent (bits40 received) r ⌝ }
         ensures one { λ r. ⌜ OneMended (bits40 received) r ⌝ }
         ensures two { λ r. ⌜ TwoFound (bits40 received) r ⌝ }

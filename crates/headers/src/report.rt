@@ -1,6 +1,6 @@
 // What is said of a header.
 ghost use mathlib.Core.Path.{_≡_};
-ghost use Rattle.cell.specs.Errors.{bits40};
+ghost use Rattle.cell.specs.LineHeader.{bits40};
 ghost use Rattle.headers.specs.Finding.{CleanSent, OneMended, TwoFound};
 ghost use Rattle.headers.specs.Report.{nameOf, reportOf};
 use crate::finding::Finding;

@@ -2,13 +2,18 @@
 use borrow.Author.Needs.{needs}
 use Prim.Native.Nat.{_<_}
 use lib.ListN.{length}
-use Rattle.cell.proofs.Verdicts.{table-rule, table-value}
+use Rattle.cell.proofs.Verdicts.{table-rule, table-two, table-value}
 use Rattle.cell.proofs.verdict.by_table.Needs as need
 
 pub returns : need.returns
 returns c =
-    let within : c .args .syndrome < length (c .args .table .now) = search needs in
+    let table = c .args .table .now in
+    let s = c .args .syndrome in
+    let v = c .look-up .result in
+    let is = c .look-up .ensures in
+    let within : s < length table = search needs in
     record {
-      value = table-value (c .args .table .now) (c .args .syndrome) (c .look-up .result) (c .look-up .ensures) within (c .pre);
-      rule = table-rule (c .args .table .now) (c .args .syndrome) (c .look-up .result) (c .look-up .ensures) within (c .pre);
+      value = table-value table s v is within (c .pre);
+      rule = table-rule table s v is within (c .pre);
+      two = table-two table s v is within (c .pre);
     }

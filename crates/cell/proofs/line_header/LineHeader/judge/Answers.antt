@@ -1,7 +1,7 @@
 use borrow.Author.Needs.{needs}
 use mathlib.Core.Path.{sym, subst}
 use Prim.Native.Nat.{_^_, _<_}
-use Rattle.cell.specs.Errors.{bits40, OneTold, TwoPast}
+use Rattle.cell.specs.LineHeader.{bits40, OneTold, TwoPast}
 use Rattle.cell.proofs.WrongBits.{one-told, two-past}
 use Rattle.cell.proofs.line_header.LineHeader.judge.Needs as need
 

@@ -1,5 +1,5 @@
 use mathlib.Core.Path.{sym, subst}
-use Rattle.cell.specs.Errors.{bits40, Restored}
+use Rattle.cell.specs.LineHeader.{bits40, Restored}
 use Rattle.cell.specs.declared.line_header.LineHeader.{LineHeader}
 use Rattle.cell.proofs.WrongBits.{restored}
 use Rattle.cell.proofs.line_header.LineHeader.mend.Needs as need

@@ -1,8 +1,7 @@
 use borrow.Author.Needs.{needs}
 use mathlib.Core.Path.{_≡_, sym, ap, subst, _∙_}
 use Prim.Native.Nat.{_^_, _<_}
-use Rattle.cell.specs.CheckOctet.{syndrome}
-use Rattle.cell.specs.Errors.{bits40}
+use Rattle.cell.specs.LineHeader.{syndromeOf, bits40}
 use Rattle.cell.specs.Verdict.{verdictOf}
 use Rattle.headers.specs.Finding.{findingOf, CleanSent, OneMended, TwoFound}
 use Rattle.headers.proofs.Mending.{clean-sent, one-mended, two-found}
@@ -12,7 +11,7 @@ pub returns : need.returns
 returns c =
     let l = c .args .received in
     let told = c .judge .ensures in
-    let value : c .under .result ≡ findingOf l (verdictOf (syndrome (l .header .0) (l .hec))) = c .under .ensures ∙ ap (findingOf l) (told .value) in
+    let value : c .under .result ≡ findingOf l (verdictOf (syndromeOf l)) = c .under .ensures ∙ ap (findingOf l) (told .value) in
     let p : l .header .0 < 2 ^ 32 = search needs in
     let q : l .hec < 2 ^ 8 = search needs in
     record {

@@ -6,7 +6,7 @@ use lib.Pow.{shr-shr, split}
 use Rattle.cell.specs.Header.{fieldsOf, joined}
 
 -- what lies from bit k up is what lies from bit j + k up, and the j bits below it
-level : (h j k : ℕ) → h / 2 ^ (k + j) * 2 ^ j + h / 2 ^ k % 2 ^ j ≡ h / 2 ^ k
+pub level : (h j k : ℕ) → h / 2 ^ (k + j) * 2 ^ j + h / 2 ^ k % 2 ^ j ≡ h / 2 ^ k
 level h j k = ap (λ (x : ℕ). x * 2 ^ j + h / 2 ^ k % 2 ^ j) (sym (shr-shr h k j)) ∙ split (h / 2 ^ k) j
 
 pub joined-fields : (h : ℕ) → h < 2 ^ 32 → joined (fieldsOf h) ≡ h

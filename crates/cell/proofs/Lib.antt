@@ -5,4 +5,3 @@ pub mod Division
 pub mod SingleErrors
 pub mod Verdicts
 pub mod WrongBits
-pub mod Worked

@@ -102,6 +102,9 @@ ruled-says s PastMending t = (
       (e ∙ sym (power-is i b)),
 )
 
+pub ruled-value : (s : ℕ) (v : Verdict) → T (ruled s v) → verdictOf s ≡ v
+ruled-value s v t = only s (verdictOf s) v (verdict-rule s) (ruled-says s v t)
+
 module _ (table : List Verdict) (s : ℕ) (v : Verdict) (is : v ≡ entry table s) (within : s < length table) (passed : everyRuled table ≡ true) where
   pub table-rule : Rule s v
   unfolding entry

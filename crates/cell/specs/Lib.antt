@@ -8,4 +8,3 @@ pub mod Verdict
 pub mod VerdictTest
 pub mod LineHeader
 pub mod Sorting
-pub mod WorkedValues

@@ -6,4 +6,3 @@ pub mod refusal;
 pub mod sizes;
 pub mod sorting;
 pub mod verdict;
-pub mod worked_values;

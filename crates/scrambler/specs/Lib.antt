@@ -1,0 +1,5 @@
+pub mod Generator
+pub mod Coding
+pub mod Sequence
+pub mod Finder
+pub mod WorkedValues

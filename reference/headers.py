@@ -1,28 +1,18 @@
-#!/usr/bin/env python3
-"""The capture that the program `headers` is run on, and what it must print, worked out from the rules alone.
+"""The capture that the program `headers` is run on, and what it must print."""
 
-Run from the repository's root:
-    python3 reference/headers.py            writes crates/headers/stdin and crates/headers/stdout
-    python3 reference/headers.py --check    says whether they differ from what it would write
-"""
-import pathlib
 import re
-import sys
+from typing import Dict
 
-CRATE = pathlib.Path("crates/headers")
-GENERATOR = 0x107  # x^8 + x^2 + x + 1
+import check_octet as division
+from bits import bits_of, number_of
 
 
 def check_octet(header):
-    rest = header << 8
-    for degree in range(39, 7, -1):
-        if rest >> degree & 1:
-            rest ^= GENERATOR << degree - 8
-    return rest ^ 0x55
+    return number_of(division.check_octet(bits_of(header, 32)))
 
 
 def syndrome(word):
-    return check_octet(word >> 8) ^ word & 0xFF
+    return number_of(division.syndrome(bits_of(word, 40)))
 
 
 def kind(word):
@@ -120,14 +110,5 @@ def capture():
     return b"\n".join(lines)
 
 
-def main():
-    wanted = {CRATE / "stdin": capture(), CRATE / "stdout": printed(capture())}
-    if sys.argv[1:] == ["--check"]:
-        differing = [str(path) for path, octets in wanted.items() if not path.is_file() or path.read_bytes() != octets]
-        print("differ: " + ", ".join(differing) if differing else "the files are as worked out")
-        sys.exit(1 if differing else 0)
-    for path, octets in wanted.items():
-        path.write_bytes(octets)
-
-
-main()
+def files() -> Dict[str, bytes]:
+    return {"stdin": capture(), "stdout": printed(capture())}

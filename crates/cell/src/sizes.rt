@@ -1,5 +1,8 @@
 // How many octets and bits a cell and its parts have.
 
+// The header without its check octet.
+pub const HEADER_OCTETS: usize = 4;
+
 pub const PAYLOAD_OCTETS: usize = 48;
 // Header and payload, as sources, sinks and sorting have them.
 pub const CELL_OCTETS: usize = 52;

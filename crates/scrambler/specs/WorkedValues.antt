@@ -52,6 +52,7 @@ workedValues =
     ∷ idle-starts 0x3ECFEDE8 (0xBE ∷ 0xCF ∷ 0xED ∷ 0xE9 ∷ 0x78 ∷ 0x0B ∷ [])
     ∷ samples-give 0b10_10_00_11_11_00_11_10_01_10_01_01_00_11_01_11 0x061979AB
     ∷ followed-by 0x061979AB 0x1BD3A17C
+    ∷ samples-give 0 0
     ∷ []
 
 abbrev pub WorkedValuesHold : Type 0

@@ -6,3 +6,5 @@ pub mod Payloads
 pub mod Codes
 pub mod Sequences
 pub mod Worked
+pub mod SampleSequence
+pub mod PhaseSequence

@@ -10,7 +10,7 @@ use lib.Pow.{pow-pos}
 use Rattle.std.proofs.shelf.Bits.{mod-low, shr-high, shr-shr}
 use Rattle.scrambler.specs.Generator.{step, back, iterate, ahead, ago, octetAhead}
 use Rattle.scrambler.specs.Coding.{headerMask}
-use Rattle.scrambler.specs.Sequence.{Generated, bitsAt, phaseAt, SequenceLaws}
+use Rattle.scrambler.specs.Sequence.{Generated, bitsAt, phaseAt}
 use Rattle.scrambler.proofs.Masks.{ago-32-is}
 use Rattle.scrambler.proofs.Steps.{back-step}
 
@@ -117,7 +117,3 @@ module _ (u : ℕ → ℕ) (g : Generated u) where
       ap (λ (x : ℕ). x % 2 ^ 8) (steps-at (k + 8) n)
       ∙ ap (λ (x : ℕ). x % 2 ^ 8) (bits-split m 23 8) ∙ mod-low (bitsAt u m 23) 8 (bitsAt u (m + 23) 8) (bits-lt (m + 23) 8)
       ∙ ap (λ (x : ℕ). bitsAt u x 8) (omega arith)
-
-pub sequence-laws : SequenceLaws
-sequence-laws =
-    record { stepped = step-at; backed = back-at; next = λ u g. steps-at u g 424; later = ahead-at; earlier = ago-at; octet = octet-at; mask = mask-at }

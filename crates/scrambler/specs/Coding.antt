@@ -6,10 +6,14 @@
 --   sample7 p          U(t + 1), which HEC7 carries
 --   samples p          both, at the places of HEC8 and HEC7 in an octet
 --   codedHeader h p    the header h on the line: scrambled, then its check octet, then the two samples in that
+--   headerOctets h     the four octets of a header, the most significant first
 --   masked k p xs      octets xored with U(t + k) and on; a payload begins at k = 8
 --   coded p cell       the 53 octets of a cell on the line
---   decoded p line     the 52 octets of 53 from the line, freed of the scrambler; the HEC octet is left out
+--   decoded p line     the 52 octets of 53 from the line, descrambled; the HEC octet is left out
 --   CarriesSamples     a header on the line agrees, and HEC8 and HEC7 of its syndrome are the samples of a phase
+--   RightLengths       52 octets in, 53 out
+--   CodeWhy            why coding a cell at p into a place is refused: a wrong length is told before a bad phase
+--   Codes              a cell is coded at p into a place, which then is decoded to the cell again
 --   CodeAnswer         what coding a cell into a place answers and leaves there, also where it is refused
 use Prim.Native.Nat.{ℕ, _+_, _*_, _/_, _%_, _^_, _<_, _≤_}
 use mathlib.Core.Path.{_≡_}
@@ -22,6 +26,7 @@ use Rattle.std.specs.Results.{Cases}
 use Rattle.std.specs.declared.result.Result.{Result}
 use Rattle.cell.specs.CheckOctet.{checkOctet}
 use Rattle.cell.specs.LineHeader.{syndromeOf}
+use Rattle.cell.specs.Refusal.{numberOf}
 use Rattle.cell.specs.Verdict.{agreeing}
 use Rattle.cell.specs.Sorting.{headerOf}
 use Rattle.cell.specs.declared.line_header.LineHeader.{LineHeader}
@@ -50,7 +55,6 @@ unfoldable pub masked : ℕ → ℕ → List ℕ → List ℕ
 masked k p [] = []
 masked k p (x ∷ xs) = bitXor x (octetAhead k p) ∷ masked (k + 8) p xs
 
--- the four octets of a header, the most significant first
 abbrev pub headerOctets : ℕ → List ℕ
 headerOctets h = h / 2 ^ 24 % 2 ^ 8 ∷ h / 2 ^ 16 % 2 ^ 8 ∷ h / 2 ^ 8 % 2 ^ 8 ∷ h % 2 ^ 8 ∷ []
 
@@ -69,14 +73,12 @@ pub record CarriesSamples (line : LineHeader) (p : ℕ) : Type 0 where
 
 -- ---- coding into a place
 
--- 52 octets in, 53 out
 abbrev pub RightLengths : List ℕ → List ℕ → Type 0
 RightLengths cell place = (length cell ≡ 52) × (length place ≡ 53)
 
--- a wrong length is told before a bad phase
 abbrev pub CodeWhy : List ℕ → ℕ → List ℕ → Refusal → Type 0
-CodeWhy cell p place WrongLength = RightLengths cell place → ⊥
-CodeWhy cell p place BadPhase = RightLengths cell place × ((p ≡ 0) ⊎ (2 ^ 31 ≤ p))
+CodeWhy cell p place WrongLength = (numberOf WrongLength ≡ 4) × (RightLengths cell place → ⊥)
+CodeWhy cell p place BadPhase = (numberOf BadPhase ≡ 3) × RightLengths cell place × ((p ≡ 0) ⊎ (2 ^ 31 ≤ p))
 CodeWhy cell p place NoOctets = ⊥
 CodeWhy cell p place TooManyOctets = ⊥
 CodeWhy cell p place ReservedHeader = ⊥
@@ -86,7 +88,6 @@ CodeWhy cell p place NoneWaiting = ⊥
 CodeWhy cell p place BadSampleWord = ⊥
 CodeWhy cell p place NoOnePhase = ⊥
 
--- the place holds the coded cell, and that is decoded to the cell again
 pub record Codes (cell : List ℕ) (p : ℕ) (place : List ℕ) (place′ : List ℕ) : Type 0 where
   pub lengths : RightLengths cell place
   pub phase : (0 < p) × (p < 2 ^ 31)

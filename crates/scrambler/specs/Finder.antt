@@ -7,7 +7,7 @@
 --   OnePhase w p     p is the one phase with the sample word w
 --   PhaseOf w r      what the finder answers to the word w, also where it refuses
 --   phaseRows        for each bit of the phase, the top bit first, the bits of the sample word whose sum it is
---   timesRows rs w   for each row the sum of the bits of w that it picks, the first row's on top
+--   timesRows rs w   for each row the sum of the bits of w that it picks, the first row's on top (timesFrom: below the bits a)
 --   found w          the finder's answer, by the rows
 use Prim.Native.Nat.{ℕ, zero, suc, _*_, _%_, _^_, _<_, _≤_}
 use mathlib.Core.Path.{_≡_}
@@ -18,6 +18,7 @@ use lib.Count.{ones}
 use lib.Dec.{ltb}
 use Rattle.std.specs.declared.result.Result.{Result}
 use Rattle.std.specs.declared.result.Result.the-variants.{Ok, Err}
+use Rattle.cell.specs.Refusal.{numberOf}
 use Rattle.cell.specs.declared.refusal.Refusal.{Refusal}
 use Rattle.cell.specs.declared.refusal.Refusal.the-variants.{NoOctets, TooManyOctets, BadPhase, WrongLength, ReservedHeader, NotServed, NoSpace, NoneWaiting, BadSampleWord, NoOnePhase}
 use Rattle.scrambler.specs.Generator.{before}
@@ -35,8 +36,8 @@ OnePhase w p = (p < 2 ^ 31) × (sampleWord p ≡ w) × ((q : ℕ) → q < 2 ^ 31
 
 abbrev pub PhaseOf : ℕ → Result ℕ Refusal → Type 0
 PhaseOf w (Ok p) = OnePhase w p
-PhaseOf w (Err BadSampleWord) = 2 ^ 31 ≤ w
-PhaseOf w (Err NoOnePhase) = (w < 2 ^ 31) × ((p : ℕ) → OnePhase w p → ⊥)
+PhaseOf w (Err BadSampleWord) = (numberOf BadSampleWord ≡ 9) × (2 ^ 31 ≤ w)
+PhaseOf w (Err NoOnePhase) = (numberOf NoOnePhase ≡ 10) × (w < 2 ^ 31) × ((p : ℕ) → OnePhase w p → ⊥)
 PhaseOf w (Err NoOctets) = ⊥
 PhaseOf w (Err TooManyOctets) = ⊥
 PhaseOf w (Err BadPhase) = ⊥
@@ -46,7 +47,7 @@ PhaseOf w (Err NotServed) = ⊥
 PhaseOf w (Err NoSpace) = ⊥
 PhaseOf w (Err NoneWaiting) = ⊥
 
--- ---- by rows
+-- ---- by rows. Nothing of this need be believed: PhaseOf alone fixes the finder's answer to each word
 
 unfoldable pub timesFrom : List ℕ → ℕ → ℕ → ℕ
 timesFrom [] w a = a

@@ -7,7 +7,7 @@
 --   ahead k p          U(t + k), where p is the phase at t
 --   ago k p            U(t - k), for k from 1
 --   octetAhead k p     U(t + k) to U(t + k + 7) as an octet, the first on top
---   Steps k p r        the phase r lies k steps on from p, wherever p came from
+--   Steps k p r        the phase r lies k steps on from p; said of the place q that p was reached from, so that runs of steps add up
 --   nextPhase p        the phase of the next cell, 424 steps on
 --   before p           the phase of the cell before, 424 steps back
 use Prim.Native.Nat.{ℕ, zero, suc, _+_, _-_, _*_, _/_, _%_, _^_}

@@ -6,6 +6,7 @@
 --     followed-by p q            the phase p is followed by the phase q
 --     idle-starts p xs           an idle cell coded at the phase p starts with the octets xs
 --     samples-give w p           the 32 samples w of 16 cells, the first on top, give the phase p of the last one
+--   idleCell       the 52 octets of an idle cell
 --   Holds l        the definitions give what the line l says
 --   workedValues   the table
 use mathlib.Core.Path.{_≡_}

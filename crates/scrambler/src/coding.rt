@@ -2,6 +2,7 @@
 ghost use mathlib.Core.Path.{_≡_};
 ghost use lib.ListN.{length};
 ghost use Rattle.scrambler.specs.Coding.{codedHeader, coded, decoded, CarriesSamples, CodeAnswer};
+use crate::generator::LAST_PHASE;
 use crate::payload::mask_payload;
 use crate::samples::header_mask;
 use crate::samples::predicted_samples;
@@ -9,12 +10,13 @@ use cell::header::Header;
 use cell::line_header::LineHeader;
 use cell::refusal::Refusal;
 use cell::sizes::CELL_OCTETS;
+use cell::sizes::HEADER_OCTETS;
+use cell::sizes::LINE_HEADER_OCTETS;
 use cell::sizes::LINE_OCTETS;
+use cell::sizes::PAYLOAD_OCTETS;
 
-// The largest phase.
-pub const LAST_PHASE: u32 = 0x7fff_ffff;
-
-// A header as the line carries it: scrambled, with a check octet that carries two samples of the generator.
+// A header as the line carries it: scrambled, with a check octet that carries two samples of the generator. Of a phase above
+// 2^31 - 1 the low 31 bits count.
 pub fn code_header(header: Header, phase: u32) -> LineHeader
     ensures value { λ r. ⌜ r ≡ codedHeader (header .0) phase ⌝ }
     ensures samples { λ r. ⌜ CarriesSamples r phase ⌝ }
@@ -55,10 +57,10 @@ fn write_coded(cell: &[u8], phase: u32, place: &mut [u8])
 {
     let header = Header(u32::from_be_bytes([cell[0], cell[1], cell[2], cell[3]]));
     let LineHeader { header, hec } = code_header(header, phase);
-    let mut payload = [0u8; 48];
-    payload.copy_from_slice(&cell[4..52]);
+    let mut payload = [0u8; PAYLOAD_OCTETS];
+    payload.copy_from_slice(&cell[HEADER_OCTETS..CELL_OCTETS]);
     mask_payload(phase, &mut payload);
-    place[0..4].copy_from_slice(&header.0.to_be_bytes());
-    place[4] = hec;
-    place[5..53].copy_from_slice(&payload);
+    place[0..HEADER_OCTETS].copy_from_slice(&header.0.to_be_bytes());
+    place[HEADER_OCTETS] = hec;
+    place[LINE_HEADER_OCTETS..LINE_OCTETS].copy_from_slice(&payload);
 }

@@ -2,6 +2,7 @@
 ghost use mathlib.Core.Path.{_≡_};
 ghost use Prim.Native.Nat.{_<_, _^_};
 ghost use Rattle.scrambler.specs.Finder.{timesRows, phaseRows, found, OnePhase, PhaseOf};
+use crate::generator::LAST_PHASE;
 use cell::refusal::Refusal;
 
 // The one phase with these 31 samples, the first on top, the last being the HEC7 sample of the cell whose phase it is.
@@ -10,7 +11,7 @@ pub fn find_phase(word: u32) -> Result<u32, Refusal>
     ensures value { λ r. ⌜ r ≡ found word ⌝ }
     ensures one { λ r. ⌜ PhaseOf word r ⌝ }
 {
-    if word > 0x7fff_ffff {
+    if word > LAST_PHASE {
         return Err(Refusal::BadSampleWord);
     }
     Ok(phase_by(ROWS, word))

@@ -4,10 +4,10 @@ ghost use Prim.Native.Nat.{_<_, _≤_, _^_};
 ghost use Rattle.scrambler.specs.Generator.{Steps, nextPhase};
 ghost use Rattle.scrambler.specs.Sequence.{SequenceLaws};
 
-// A phase has 31 bits.
-const PHASE_MASK: u32 = 0x7fff_ffff;
+// The largest phase: a phase has 31 bits.
+pub const LAST_PHASE: u32 = 0x7fff_ffff;
 
-// The phase of the next cell, 424 steps on. Of a word above 2^31 - 1 the low 31 bits count.
+// The phase of the next cell, 424 steps on: 15 times 28, and 4. Of a word above 2^31 - 1 the low 31 bits count.
 pub fn next_phase(phase: u32) -> u32
     ensures value { λ r. ⌜ r ≡ nextPhase phase ⌝ }
     ensures small { λ r. ⌜ r < 2 ^ 31 ⌝ }
@@ -27,7 +27,7 @@ pub(crate) fn steps_on(phase: u32, count: u32) -> u32
     ensures small { λ r. ⌜ r < 2 ^ 31 ⌝ }
 {
     let new = ((phase >> (28 - count)) ^ (phase >> (31 - count))) & ((1 << count) - 1);
-    ((phase << count) & PHASE_MASK) ^ new
+    ((phase << count) & LAST_PHASE) ^ new
 }
 
 // Steps, bits, octets and masks of a phase are those of any sequence of bits that obeys the recurrence: this call does nothing,

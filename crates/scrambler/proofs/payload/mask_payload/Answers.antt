@@ -9,9 +9,9 @@ use Rattle.scrambler.proofs.payload.mask_payload.Needs as need
 
 pub loop-i-holds : need.loop-i-holds
 loop-i-holds c = (
-  c .steps-on-p .ensures .small,
+  c .past-hec-p .ensures .small,
   search needs,
-  steps-of 8 (c .args .phase) (c .steps-on-p .result) (c .steps-on-p .ensures .on),
+  steps-of 8 (c .args .phase) (c .past-hec-p .result) (c .past-hec-p .ensures .on),
   (λ k h. absurd (let z : ⊥ = omega arith in z)),
   λ k h. refl,
 )
@@ -21,14 +21,14 @@ loop-i-again c =
     let i : ℕ = c .loop-i .i in
     let p : ℕ = c .args .phase in
     let inv = c .loop-i .inv in
-    let on = c .steps-on-p-in-loop-i .ensures .on in
+    let on = c .steps-on-p .ensures .on in
     let small : c .loop-i .p < 2 ^ 32 = omega (arith, inv .0) in (
-      c .steps-on-p-in-loop-i .ensures .small,
+      c .steps-on-p .ensures .small,
       search needs,
       on (8 + 24 * i) p (inv .2) ∙ ap (λ (n : ℕ). iterate n step p) (omega arith),
-      more-done (c .args .payload .now) (c .loop-i .payload) (c .mask-three .last .payload) p i (c .loop-i .p) (c .steps-on-p-in-loop-i .result)
+      more-done (c .args .payload .now) (c .loop-i .payload) (c .mask-three .last .payload) p i (c .loop-i .p) (c .steps-on-p .result)
           (inv .2) small on (c .mask-three .ensures .within) (c .mask-three .ensures .without) (inv .3) (inv .4),
-      less-left (c .args .payload .now) (c .loop-i .payload) (c .mask-three .last .payload) p i (c .loop-i .p) (c .steps-on-p-in-loop-i .result)
+      less-left (c .args .payload .now) (c .loop-i .payload) (c .mask-three .last .payload) p i (c .loop-i .p) (c .steps-on-p .result)
           (inv .2) small on (c .mask-three .ensures .within) (c .mask-three .ensures .without) (inv .3) (inv .4),
     )
 

@@ -1,6 +1,7 @@
 -- Lower-case hexadecimal digits: two to an octet, eight to a word.
 --
 --   digitOf c            the value of the digit that the letter c is, if it is one
+--   joined unit a b      a times the unit plus b, where both are there
 --   octetOf a b          the value of two letters
 --   octetAt text i       the octet that the letters 2i and 2i + 1 spell
 --   wordOf text          the word that a text of eight letters spells
@@ -19,7 +20,6 @@ digitOf c =
     cond (ltb c 48) None
     (cond (ltb c 58) (Some (c - 48)) (cond (ltb c 97) None (cond (ltb c 103) (Some (c - 87)) None)))
 
--- what is read where both are there
 abbrev pub joined : ℕ → Option ℕ → Option ℕ → Option ℕ
 joined unit None low = None
 joined unit (Some high) None = None

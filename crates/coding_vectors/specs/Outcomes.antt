@@ -2,18 +2,16 @@
 --
 --   foundOutcome r        what comes of the finder's answer r
 --   headerRight line p    the header of a cell on the line agrees, and its syndrome is the two samples of the phase p
---   ComesBack cell p line header and payload of the line, freed of the scrambler at p, are those of the cell
---   CellWhy cell p e      why a cell is not coded at p
+--   ComesBack cell p line header and payload of the line, descrambled at p, are those of the cell
 --   CellOutcome cell p o  what comes of coding a cell at p
 --   Answers c o           what comes of a case
 use mathlib.Core.Path.{_≡_}
 use mathlib.Core.Bool.{Bool, false, cond}
 use mathlib.Core.List.{List}
-use mathlib.Core.Logic.{_⊎_}
-use Prim.Native.Nat.{ℕ, _^_, _<_, _≤_}
+use Prim.Native.Nat.{ℕ, _^_, _<_}
 use lib.Bits.{bitXor}
 use lib.Dec.{eqb}
-use lib.ListN.{length, getD, drop}
+use lib.ListN.{length, getD, drop, replicate}
 use Rattle.std.specs.Of.Vec.{vec-items}
 use Rattle.std.specs.Orderings.{Decides}
 use Rattle.std.specs.declared.result.Result.{Result}
@@ -22,8 +20,7 @@ use Rattle.cell.specs.CheckOctet.{syndrome}
 use Rattle.cell.specs.Verdict.{agreeing}
 use Rattle.cell.specs.Sorting.{headerOf}
 use Rattle.cell.specs.declared.refusal.Refusal.{Refusal}
-use Rattle.cell.specs.declared.refusal.Refusal.the-variants.{NoOctets, TooManyOctets, BadPhase, WrongLength, ReservedHeader, NotServed, NoSpace, NoneWaiting, BadSampleWord, NoOnePhase}
-use Rattle.scrambler.specs.Coding.{coded, headerMask, masked, samples}
+use Rattle.scrambler.specs.Coding.{coded, headerMask, masked, samples, CodeWhy}
 use Rattle.scrambler.specs.Finder.{found}
 use Rattle.scrambler.specs.Generator.{nextPhase}
 use Rattle.coding_vectors.specs.declared.cases.Case.{Case}
@@ -44,25 +41,12 @@ pub record ComesBack (cell : List ℕ) (p : ℕ) (line : List ℕ) : Type 0 wher
   pub header : bitXor (headerOf line) (headerMask p) ≡ headerOf cell
   pub payload : masked 8 p (drop 5 line) ≡ drop 4 cell
 
--- a wrong length is told before a bad phase
-abbrev pub CellWhy : List ℕ → ℕ → Refusal → Type 0
-CellWhy cell p WrongLength = length cell ≡ 52 → ⊥
-CellWhy cell p BadPhase = (length cell ≡ 52) × ((p ≡ 0) ⊎ (2 ^ 31 ≤ p))
-CellWhy cell p NoOctets = ⊥
-CellWhy cell p TooManyOctets = ⊥
-CellWhy cell p ReservedHeader = ⊥
-CellWhy cell p NotServed = ⊥
-CellWhy cell p NoSpace = ⊥
-CellWhy cell p NoneWaiting = ⊥
-CellWhy cell p BadSampleWord = ⊥
-CellWhy cell p NoOnePhase = ⊥
-
 abbrev pub CellOutcome : List ℕ → ℕ → Outcome → Type 0
 CellOutcome cell p (Line line next same agrees) =
     (length cell ≡ 52) × (0 < p) × (p < 2 ^ 31)
     × (line ≡ coded p cell) × (next ≡ nextPhase p) × (agrees ≡ headerRight line p)
     × Decides same (ComesBack cell p line)
-CellOutcome cell p (Refused e) = CellWhy cell p e
+CellOutcome cell p (Refused e) = CodeWhy cell p (replicate 53 0) e
 CellOutcome cell p (Phase q) = ⊥
 CellOutcome cell p (Next q) = ⊥
 CellOutcome cell p Malformed = ⊥

@@ -86,14 +86,15 @@ fn find(word: u32) -> Outcome
     }
 }
 
-// The header and the payload of a cell on the line, freed of the scrambler, are those of the cell.
+// The header and the payload of a cell on the line, descrambled, are those of the cell.
 fn comes_back(cell: &[u8], phase: u32, line: &[u8; LINE_OCTETS]) -> bool
     requires { ⌜ length (now cell) ≡ 52 ⌝ }
     ensures { λ r. ⌜ Decides r (ComesBack (now (cell .entry)) phase (now (line .entry))) ⌝ }
 {
     let header = u32::from_be_bytes([cell[0], cell[1], cell[2], cell[3]]);
     let (_, payload) = cell.split_at(HEADER_OCTETS);
-    free_header(line, phase) == header && same_octets(&free_payload(line, phase), payload)
+    descramble_header(line, phase) == header
+        && same_octets(&descramble_payload(line, phase), payload)
 }
 
 // Two rows of octets are the same.
@@ -103,15 +104,15 @@ fn same_octets(one: &[u8], other: &[u8]) -> bool
     one == other
 }
 
-// The header of a cell on the line, freed of the scrambler.
-fn free_header(line: &[u8; LINE_OCTETS], phase: u32) -> u32
+// The header of a cell on the line, descrambled.
+fn descramble_header(line: &[u8; LINE_OCTETS], phase: u32) -> u32
     ensures { λ r. ⌜ r ≡ bitXor (headerOf (now (line .entry))) (headerMask phase) ⌝ }
 {
     u32::from_be_bytes([line[0], line[1], line[2], line[3]]) ^ header_mask(phase)
 }
 
-// The payload of a cell on the line, freed of the scrambler.
-fn free_payload(line: &[u8; LINE_OCTETS], phase: u32) -> [u8; PAYLOAD_OCTETS]
+// The payload of a cell on the line, descrambled.
+fn descramble_payload(line: &[u8; LINE_OCTETS], phase: u32) -> [u8; PAYLOAD_OCTETS]
     ensures { λ r. ⌜ r ≡ masked 8 phase (drop 5 (now (line .entry))) ⌝ }
 {
     let mut payload = [0u8; PAYLOAD_OCTETS];

@@ -57,7 +57,8 @@ module _ (q : ℕ) (small : q < 2 ^ 31) where
       record {
         bit = λ n. (let b = steps-lt n q small in omega arith);
         rule = λ n. later n 31 ∙ recurs (iterate n step q) (steps-lt n q small)
-          ∙ ap₂ bitXor (sym (later n 3)) refl }
+            ∙ ap₂ bitXor (sym (later n 3)) refl;
+      }
 
   -- the first k bits from a place are the top ones of the phase there
   top-bits : (n k : ℕ) → k ≤ 31 → bitsAt (oldest q) n k ≡ iterate n step q / 2 ^ (31 - k)

@@ -43,7 +43,7 @@ module _ (u : ℕ → ℕ) (g : Generated u) where
   one-more c a =
       let p : ℕ = phaseAt u (a + 424 * suc c) in
       let back : before p ≡ phaseAt u (a + 424 * c) =
-            ap (λ (m : ℕ). before (phaseAt u m)) (omega arith) ∙ backs-at u g 424 (a + 424 * c) in
+      ap (λ (m : ℕ). before (phaseAt u m)) (omega arith) ∙ backs-at u g 424 (a + 424 * c) in
       samples-sum c p ∙ ap (λ (q : ℕ). samplesOf c q * 4 + (sample8 p * 2 + sample7 p)) back
 
   -- bit j of the samples of c cells, counted from the last

@@ -108,11 +108,9 @@ impl Reading {
         match (self.half, self.octets) {
             (Some(_), _) => CaptureLine::Malformed(Fault::HalfOctet(before)),
             (None, 0) => CaptureLine::Empty,
+            (None, n) if n < LINE_HEADER_OCTETS => CaptureLine::Malformed(Fault::TooFew(n)),
             (None, LINE_HEADER_OCTETS) => CaptureLine::Header(LineHeader::from_bits(self.word)),
-            (None, octets) if octets < LINE_HEADER_OCTETS => CaptureLine::Malformed(Fault::TooFew(
-                octets,
-            )),
-            (None, octets) => CaptureLine::Malformed(Fault::TooMany(octets)),
+            (None, n) => CaptureLine::Malformed(Fault::TooMany(n)),
         }
     }
 }

@@ -31,9 +31,7 @@ fn run(rt: &LibcRuntime) -> Result<(), AnyError> {
         if input.read_until(b'\n', &mut line)? == 0 {
             break;
         }
-        let remark = Remark::on(line_number, &line);
-        tally.count(&remark);
-        print(rt, remark)?;
+        print(rt, tally.take(line_number, &line))?;
     }
     rt.println(tally)?;
     Ok(())

@@ -1,5 +1,6 @@
 // Counts over a whole capture.
 ghost use mathlib.Core.Path.{_≡_};
+ghost use Rattle.headers.specs.Remark.{RemarkOn};
 ghost use Rattle.headers.specs.Tally.{none, counted, countedHeader, headersIn};
 use crate::finding::Finding;
 use crate::remark::Remark;
@@ -27,8 +28,17 @@ impl Tally {
         }
     }
 
-    // Counts what is said of a line.
-    pub fn count(&mut self, remark: &Remark)
+    // What is said of a line, which may have its line end; and counts it.
+    pub fn take(&mut self, line_number: u64, line: &[u8]) -> Remark
+        ensures remark { λ r. ⌜ RemarkOn (now (line .entry)) «line_number» r ⌝ }
+        ensures after { λ r. ⌜ now (self .exit) ≡ counted r (now (self .entry)) ⌝ }
+    {
+        let remark = Remark::on(line_number, line);
+        self.count(&remark);
+        remark
+    }
+
+    fn count(&mut self, remark: &Remark)
         ensures { λ _. ⌜ now (self .exit) ≡ counted (now (remark .entry)) (now (self .entry)) ⌝ }
     {
         match remark {

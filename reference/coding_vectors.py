@@ -89,7 +89,7 @@ def good_cells(draw: Draw) -> List[bytes]:
             cases.append(cell_case(draw.phase(), header.to_bytes(4, "big") + draw.octets(48)))
     for place in range(31):
         cases.append(cell_case(1 << place, draw.octets(CELL_OCTETS)))
-    for _ in range(360):
+    for _ in range(400):
         cases.append(cell_case(draw.phase(), draw.octets(CELL_OCTETS)))
     return cases
 

@@ -71,7 +71,7 @@ abbrev pub leftWaiting : SenderState → List Cell → List Cell
 leftWaiting s cells = cond (eqb (s .number) 0) cells (rest cells)
 
 abbrev pub advanced : SenderState → SenderState
-advanced s = record { phase = nextPhase (s .phase); number = cond (eqb (s .number) 431) 0 (s .number + 1); f3 = s .f3 }
+advanced s = record { phase = nextPhase (s .phase); number = (s .number + 1) % 432; f3 = s .f3 }
 
 -- ---- the calls
 

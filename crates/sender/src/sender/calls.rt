@@ -93,7 +93,7 @@ impl Sender {
         ensures { λ _. ⌜ stateOf (now (self .exit)) ≡ advanced (stateOf (now (self .entry))) ⌝ }
     {
         self.phase = next_phase(self.phase);
-        self.number = if self.number == F3_PERIOD - 1 { 0 } else { self.number + 1 };
+        self.number = (self.number + 1) % F3_PERIOD;
     }
 }
 

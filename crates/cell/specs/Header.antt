@@ -7,6 +7,7 @@
 --   fieldsOf h, joined f               all five of a header; the header of five fields
 --   connectionOf h                     the number of its connection
 --   kindOf h                           which kind of cell it heads
+--   kindNumber k                       the number of the kind k
 --   reserved h                         whether no user cell may carry it
 use mathlib.Core.Bool.{Bool, true, false, cond}
 use Prim.Native.Nat.{ℕ, _+_, _*_, _/_, _%_, _^_}
@@ -42,6 +43,11 @@ connectionOf h = vpi h * 65536 + vci h
 -- the reserved headers are those of idle and F3 cells; every other header is a user cell's
 abbrev pub kindOf : ℕ → Kind
 kindOf h = cond (eqb h 0x00000001) Idle (cond (eqb h 0x00000009) F3 User)
+
+abbrev pub kindNumber : Kind → ℕ
+kindNumber Idle = 0
+kindNumber F3 = 1
+kindNumber User = 2
 
 abbrev pub reserved : ℕ → Bool
 reserved h = elim (kindOf h) [ Idle ↦ true | F3 ↦ true | User ↦ false ]

@@ -1,6 +1,7 @@
 -- Sorting the octets of a cell: four of the header, the most significant first, and 48 of the payload.
 --
 --   headerOf xs       the header that the first four octets write
+--   headerOctets h    the four octets of a header
 --   PartFrom s n p    the slice p is the very part of the slice s that begins at octet n: it lies in the same block of memory,
 --                     n octets on, and holds what s holds from there
 --   NoCell s e        the slice s is refused with 4, since it has not 52 octets
@@ -8,8 +9,8 @@
 --   Sorts s r         what sorting the slice s answers, also where it is refused
 --   Cuts s r          the same of telling header and payload apart
 use mathlib.Core.Path.{_≡_}
-use mathlib.Core.List.{List}
-use Prim.Native.Nat.{ℕ, _+_, _*_, _^_}
+use mathlib.Core.List.{List, [], _∷_}
+use Prim.Native.Nat.{ℕ, _+_, _*_, _/_, _%_, _^_}
 use lib.ListN.{length, getD, drop}
 use denote.Ref.{RefT}
 use Rattle.std.specs.declared.result.Result.{Result}
@@ -25,6 +26,9 @@ use Rattle.cell.specs.declared.sorting.Parts.{Parts}
 
 abbrev pub headerOf : List ℕ → ℕ
 headerOf xs = getD xs 0 0 * 2 ^ 24 + getD xs 1 0 * 2 ^ 16 + getD xs 2 0 * 2 ^ 8 + getD xs 3 0
+
+abbrev pub headerOctets : ℕ → List ℕ
+headerOctets h = h / 2 ^ 24 % 2 ^ 8 ∷ h / 2 ^ 16 % 2 ^ 8 ∷ h / 2 ^ 8 % 2 ^ 8 ∷ h % 2 ^ 8 ∷ []
 
 abbrev pub PartFrom : RefT (List ℕ) → ℕ → RefT (List ℕ) → Type 0
 PartFrom s n p = (p .ptr .0 ≡ s .ptr .0) × (p .ptr .1 ≡ s .ptr .1 + n) × (p .now ≡ drop n (s .now))

@@ -1,6 +1,6 @@
 // The header of a cell: its fields, its connection and the kind of cell that it heads.
 ghost use mathlib.Core.Path.{_≡_};
-ghost use Rattle.cell.specs.Header.{fieldsOf, joined, connectionOf, kindOf, reserved};
+ghost use Rattle.cell.specs.Header.{fieldsOf, joined, connectionOf, kindOf, kindNumber, reserved};
 
 // The 32 header bits of a cell, as a number from the top.
 #[derive(Clone, Copy, PartialEq, Eq, Drop)]
@@ -30,6 +30,19 @@ pub enum Kind {
     F3,
     // carries a user's payload
     User,
+}
+
+impl Kind {
+    // The number by which a caller knows the kind.
+    pub fn number(self) -> u8
+        ensures { λ r. ⌜ r ≡ kindNumber self ⌝ }
+    {
+        match self {
+            Kind::Idle => 0,
+            Kind::F3 => 1,
+            Kind::User => 2,
+        }
+    }
 }
 
 impl Header {

@@ -16,6 +16,7 @@ use Rattle.cell.specs.CheckOctet.{checkOctet}
 use Rattle.cell.specs.LineHeader.{syndromeOf}
 use Rattle.cell.specs.Polynomial.{remainder}
 use Rattle.cell.specs.Sorting.{headerOf}
+use Rattle.cell.specs.declared.line_header.LineHeader.{LineHeader}
 use Rattle.cell.proofs.Fields.{level}
 use Rattle.scrambler.specs.Coding.{headerMask, sample8, sample7, samples, codedHeader, masked, headerOctets, coded, decoded, CarriesSamples}
 use Rattle.scrambler.proofs.Masks.{sample7-lt, ago-lt}
@@ -100,3 +101,12 @@ four-and-rest (a ∷ []) l = absurd (let z : ⊥ = omega arith in z)
 four-and-rest (a ∷ b ∷ []) l = absurd (let z : ⊥ = omega arith in z)
 four-and-rest (a ∷ b ∷ c ∷ []) l = absurd (let z : ⊥ = omega arith in z)
 four-and-rest (a ∷ b ∷ c ∷ d ∷ rest) l = refl
+
+-- the header of a coded cell, read off its octets
+pub coded-header-on : (cell : List ℕ) (p : ℕ) → headerOf cell < 2 ^ 32
+    → _≡_ {A = LineHeader} (record { header = record { 0 = headerOf (coded p cell) }; hec = getD (coded p cell) 4 0 }) (codedHeader (headerOf cell) p)
+unfolding coded
+coded-header-on cell p h =
+    let line : LineHeader = codedHeader (headerOf cell) p in
+    ap (λ (x : ℕ). record { header = record { 0 = x }; hec = line .hec })
+    (header-of-octets (line .header .0) (line .hec ∷ masked 8 p (drop 4 cell)) (xor-lt 32 (headerOf cell) (headerMask p) h (header-mask-lt p)))

@@ -6,7 +6,6 @@
 --   sample7 p          U(t + 1), which HEC7 carries
 --   samples p          both, at the places of HEC8 and HEC7 in an octet
 --   codedHeader h p    the header h on the line: scrambled, then its check octet, then the two samples in that
---   headerOctets h     the four octets of a header, the most significant first
 --   masked k p xs      octets xored with U(t + k) and on; a payload begins at k = 8
 --   coded p cell       the 53 octets of a cell on the line
 --   decoded p line     the 52 octets of 53 from the line, descrambled; the HEC octet is left out
@@ -29,6 +28,7 @@ use Rattle.cell.specs.LineHeader.{syndromeOf}
 use Rattle.cell.specs.Refusal.{numberOf}
 use Rattle.cell.specs.Verdict.{agreeing}
 use Rattle.cell.specs.Sorting.{headerOf}
+pub use Rattle.cell.specs.Sorting.{headerOctets}
 use Rattle.cell.specs.declared.line_header.LineHeader.{LineHeader}
 use Rattle.cell.specs.declared.refusal.Refusal.{Refusal}
 use Rattle.cell.specs.declared.refusal.Refusal.the-variants.{NoOctets, TooManyOctets, BadPhase, WrongLength, ReservedHeader, NotServed, NoSpace, NoneWaiting, BadSampleWord, NoOnePhase}
@@ -54,9 +54,6 @@ codedHeader h p =
 unfoldable pub masked : ℕ → ℕ → List ℕ → List ℕ
 masked k p [] = []
 masked k p (x ∷ xs) = bitXor x (octetAhead k p) ∷ masked (k + 8) p xs
-
-abbrev pub headerOctets : ℕ → List ℕ
-headerOctets h = h / 2 ^ 24 % 2 ^ 8 ∷ h / 2 ^ 16 % 2 ^ 8 ∷ h / 2 ^ 8 % 2 ^ 8 ∷ h % 2 ^ 8 ∷ []
 
 unfoldable pub coded : ℕ → List ℕ → List ℕ
 coded p cell =

@@ -1,0 +1,3 @@
+pub mod Octets
+pub mod Rings
+pub mod Drains

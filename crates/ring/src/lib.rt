@@ -1,0 +1,2 @@
+// A ring over lent places, for every kind of element.
+pub mod ring;

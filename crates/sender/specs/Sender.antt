@@ -5,11 +5,15 @@
 --   fresh                   phase 1, number 0, an F3 payload of 48 octets 0x6A
 --   started s p             the sender s after a start at phase p: the F3 payload stays
 --   kindSent s cells        the kind of the next cell, where the list cells waits in the source: F3 at the numbers 0, 432, 864 and so on;
---                           else user where a cell waits, and else idle
---   cellSent s cells        the next cell
---   leftWaiting s cells     what waits after it: a user cell is taken from the front
---   advanced s              the sender s one cell on
---   StartAnswer, SendAnswer what a start and a send answer and leave, also where they are refused
+--                           else user where a cell waits, and else idle (waitingKind cells)
+--   cellSent s cells        the next cell: f3Cell s, or else the first that waits or idleCell (waitingCell cells)
+--   leftWaiting s cells     what waits after it: where it is a user cell, the rest of the list, and else the list
+--   advanced s              the sender s one cell on: its phase 424 steps on, and its number one on
+--   StartWhy p e            why a start at phase p is refused with e
+--   StartAnswer s p r s′    what a start at phase p answers, and the sender after it
+--   SendWhy place e         why a send into a place is refused with e
+--   Sends                   what an accepted send writes, answers and leaves
+--   SendAnswer              what a send answers and leaves in sender, source and place, also where it is refused
 use Prim.Native.Nat.{ℕ, _+_, _%_, _^_, _<_, _≤_}
 use mathlib.Core.Path.{_≡_}
 use mathlib.Core.Bool.{cond}

@@ -1,7 +1,6 @@
 -- A cell as sources and sinks have it: header and payload, without the check octet.
 --
 --   Cell              a header, as a number, and the octets of a payload
---   headerOctets h    the four octets of a header, the most significant first
 --   octets c          the 52 octets of a cell
 --   User c            c is a user cell: its header has 32 bits and is not reserved, its payload has 48 octets
 --   ofConnection k cs those of the cells cs that belong to connection k, in their order
@@ -13,13 +12,11 @@ use lib.Dec.{eqb}
 use lib.ListN.{length}
 use Rattle.std.specs.shelf.Lists.{kept-by}
 use Rattle.cell.specs.Header.{connectionOf, reserved}
+pub use Rattle.cell.specs.Sorting.{headerOctets}
 
 pub record Cell : Type 0 where
   pub header : ℕ
   pub payload : List ℕ
-
-abbrev pub headerOctets : ℕ → List ℕ
-headerOctets h = h / 2 ^ 24 % 2 ^ 8 ∷ h / 2 ^ 16 % 2 ^ 8 ∷ h / 2 ^ 8 % 2 ^ 8 ∷ h % 2 ^ 8 ∷ []
 
 abbrev pub octets : Cell → List ℕ
 octets c = headerOctets (c .header) ++ c .payload

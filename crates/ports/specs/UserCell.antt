@@ -1,8 +1,10 @@
--- The record of a user cell, and when none can be made.
+-- The record of a user cell: making one, and writing it out.
 --
 --   cellOf u                    the cell that the record holds
 --   MakeWhy header payload e    why there is no user cell of this header and payload
 --   Makes header payload r      what making one answers
+--   WriteWhy place e            why a cell is not written into a place
+--   Writes u place r place′     what writing one answers, and the place after it
 use Prim.Native.Nat.{ℕ}
 use mathlib.Core.Path.{_≡_}
 use mathlib.Core.Bool.{true}
@@ -14,7 +16,7 @@ use Rattle.cell.specs.Header.{reserved}
 use Rattle.cell.specs.Refusal.{numberOf}
 use Rattle.cell.specs.declared.refusal.Refusal.{Refusal}
 use Rattle.cell.specs.declared.refusal.Refusal.the-variants.{NoOctets, TooManyOctets, BadPhase, WrongLength, ReservedHeader, NotServed, NoSpace, NoneWaiting, BadSampleWord, NoOnePhase}
-use Rattle.ports.specs.Cell.{Cell}
+use Rattle.ports.specs.Cell.{Cell, octets}
 use Rattle.ports.specs.declared.user_cell.UserCell.{UserCell}
 
 abbrev pub cellOf : UserCell → Cell
@@ -34,3 +36,18 @@ MakeWhy header payload NoOnePhase = ⊥
 
 abbrev pub Makes : ℕ → List ℕ → Result UserCell Refusal → Type 0
 Makes header payload r = Cases r (λ u. cellOf u ≡ record { header = header; payload = payload }) (λ e. MakeWhy header payload e)
+
+abbrev pub WriteWhy : List ℕ → Refusal → Type 0
+WriteWhy place NoOctets = ⊥
+WriteWhy place TooManyOctets = ⊥
+WriteWhy place BadPhase = ⊥
+WriteWhy place WrongLength = (numberOf WrongLength ≡ 4) × (length place ≡ 52 → ⊥)
+WriteWhy place ReservedHeader = ⊥
+WriteWhy place NotServed = ⊥
+WriteWhy place NoSpace = ⊥
+WriteWhy place NoneWaiting = ⊥
+WriteWhy place BadSampleWord = ⊥
+WriteWhy place NoOnePhase = ⊥
+
+abbrev pub Writes : {X : Type 0} → UserCell → List ℕ → Result X Refusal → List ℕ → Type 0
+Writes u place r place′ = Cases r (λ _. (length place ≡ 52) × (place′ ≡ octets (cellOf u))) (λ e. WriteWhy place e × (place′ ≡ place))

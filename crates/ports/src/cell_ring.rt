@@ -22,7 +22,7 @@ pub impl Source for Ring<'_, UserCell> as RingSource {
             return Err(Refusal::WrongLength);
         }
         let cell = self.front()?;
-        cell.write(place);
+        cell.fill(place);
         Ok(())
     }
 
@@ -31,7 +31,7 @@ pub impl Source for Ring<'_, UserCell> as RingSource {
             return Err(Refusal::WrongLength);
         }
         let cell = self.pop()?;
-        cell.write(place);
+        cell.fill(place);
         Ok(())
     }
 }

@@ -23,6 +23,7 @@ not-zero zero h = absurd (h refl)
 not-zero (suc n) h = omega arith
 
 pub next-running : (p : ℕ) → 0 < p → p < 2 ^ 31 → (0 < nextPhase p) × (nextPhase p < 2 ^ 31)
-next-running p h b =
-    ( not-zero (nextPhase p) (λ e. let z : p ≡ 0 = sym (backs-steps 424 p b) ∙ ap (iterate 424 back) e ∙ backs-zero 424 in omega arith)
-    , steps-lt 424 p b)
+next-running p h b = (
+  not-zero (nextPhase p) (λ e. let z : p ≡ 0 = sym (backs-steps 424 p b) ∙ ap (iterate 424 back) e ∙ backs-zero 424 in omega arith),
+  steps-lt 424 p b,
+)

@@ -52,8 +52,9 @@ before (y ∷ front) x back s t h (more {t = m} sent run) =
       next = found .next;
       sent = found .sent;
       phase = found .phase ∙ ap (λ (z : SenderState). iterate (424 * n) step (z .phase)) after ∙ iterate-add 424 (424 * n) step (s .phase)
-        ∙ ap (λ (k : ℕ). iterate k step (s .phase)) steps;
-      number = found .number ∙ ap (λ (z : SenderState). (z .number + n) % 432) after ∙ mod-once (s .number) n }
+          ∙ ap (λ (k : ℕ). iterate k step (s .phase)) steps;
+      number = found .number ∙ ap (λ (z : SenderState). (z .number + n) % 432) after ∙ mod-once (s .number) n;
+    }
 
 -- ---- of one send
 
@@ -77,7 +78,6 @@ taken-by false f (d ∷ w) kind cell left k c l =
 
 module _ (p : ℕ) (front : List Send) (x : Send) (b : SenderState) (next : SenderState) (sent : Sent b x next)
     (phase : b .phase ≡ iterate (424 * length front) step p) (number : b .number ≡ length front % 432) where
-
   written-at : x .line ≡ coded (iterate (424 * length front) step p) (octets (x .cell))
   written-at = sent .sends .written ∙ ap₂ (λ (q : ℕ) (c : Cell). coded q (octets c)) phase (sym (sent .cell))
 
@@ -89,21 +89,25 @@ module _ (p : ℕ) (front : List Send) (x : Send) (b : SenderState) (next : Send
       let q : ℕ = iterate (424 * length front) step p in
       let h : headerOf (octets (x .cell)) ≡ x .cell .header = header-read (x .cell) cell-header-lt in
       let on : headerOn (x .line) ≡ codedHeader (x .cell .header) q =
-            ap headerOn written-at ∙ coded-header-on (octets (x .cell)) q (subst (λ (y : ℕ). y < 2 ^ 32) (sym h) cell-header-lt)
-            ∙ ap (λ (y : ℕ). codedHeader y q) h in
+      ap headerOn written-at ∙ coded-header-on (octets (x .cell)) q (subst (λ (y : ℕ). y < 2 ^ 32) (sym h) cell-header-lt)
+      ∙ ap (λ (y : ℕ). codedHeader y q) h in
       record {
         written = written-at;
-        f3 = ( (λ e. sym number ∙ eqb→eq (b .number) 0 (subst T (sym (f3-only (eqb (b .number) 0) (x .waiting) (sym (sent .sends .sort) ∙ e))) tt))
-             , λ e. sent .sends .sort ∙ ap (λ (n : ℕ). cond (eqb n 0) F3 (waitingKind (x .waiting))) (number ∙ e));
+        f3 = (
+          (λ e. sym number ∙ eqb→eq (b .number) 0 (subst T (sym (f3-only (eqb (b .number) 0) (x .waiting) (sym (sent .sends .sort) ∙ e))) tt)),
+          λ e. sent .sends .sort ∙ ap (λ (n : ℕ). cond (eqb n 0) F3 (waitingKind (x .waiting))) (number ∙ e),
+        );
         header = subst (λ (l : LineHeader). CarriesSamples l q) (sym on) (carries-samples (x .cell .header) q);
-        taken = taken-by (eqb (b .number) 0) (f3Cell b) (x .waiting) (x .kind) (x .cell) (x .left) (sent .sends .sort) (sent .cell) (sent .sends .left) }
+        taken = taken-by (eqb (b .number) 0) (f3Cell b) (x .waiting) (x .kind) (x .cell) (x .left) (sent .sends .sort) (sent .cell) (sent .sends .left);
+      }
 
 pub stream-laws : StreamLaws
 stream-laws =
     record {
       cells = λ p xs stream front x back e.
-        (let found = before front x back (record { phase = p; number = 0; f3 = stream .f3 }) (stream .last) (lit< tt)
-               (subst (λ (ys : List Send). Run (record { phase = p; number = 0; f3 = stream .f3 }) ys (stream .last)) e (stream .run)) in
-         cell-laws p front x (found .state) (found .next) (found .sent) (found .phase)
-           (found .number ∙ ap (λ (n : ℕ). n % 432) (zero-add (length front))));
-      joined = runs-joined }
+          (let found = before front x back (record { phase = p; number = 0; f3 = stream .f3 }) (stream .last) (lit< tt)
+          (subst (λ (ys : List Send). Run (record { phase = p; number = 0; f3 = stream .f3 }) ys (stream .last)) e (stream .run)) in
+          cell-laws p front x (found .state) (found .next) (found .sent) (found .phase)
+          (found .number ∙ ap (λ (n : ℕ). n % 432) (zero-add (length front))));
+      joined = runs-joined;
+    }

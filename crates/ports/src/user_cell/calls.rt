@@ -2,7 +2,7 @@
 ghost use mathlib.Core.Path.{_≡_};
 ghost use lib.ListN.{length, replicate};
 ghost use Rattle.ports.specs.Cell.{Cell, octets};
-ghost use Rattle.ports.specs.UserCell.{cellOf, Makes};
+ghost use Rattle.ports.specs.UserCell.{cellOf, Makes, Writes};
 use super::UserCell;
 use cell::header::Header;
 use cell::refusal::Refusal;
@@ -39,8 +39,18 @@ impl UserCell {
         }
     }
 
-    // Writes the 52 octets of the cell.
-    pub(crate) fn write(&self, place: &mut [u8])
+    // Writes the 52 octets of the cell. Refuses a place of another length.
+    pub fn write(&self, place: &mut [u8]) -> Result<(), Refusal>
+        ensures { λ r. ⌜ Writes (now (self .entry)) (now (place .entry)) r (now (place .exit)) ⌝ }
+    {
+        if place.len() != CELL_OCTETS {
+            return Err(Refusal::WrongLength);
+        }
+        self.fill(place);
+        Ok(())
+    }
+
+    pub(crate) fn fill(&self, place: &mut [u8])
         requires { ⌜ length (now place) ≡ 52 ⌝ }
         ensures { λ _. ⌜ now (place .exit) ≡ octets (cellOf (now (self .entry))) ⌝ }
     {

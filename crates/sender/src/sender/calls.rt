@@ -29,7 +29,11 @@ impl Sender {
     pub fn new() -> Sender
         ensures { λ r. ⌜ stateOf r ≡ fresh ⌝ }
     {
-        Sender { phase: 1, number: 0, f3: [FILL; PAYLOAD_OCTETS] }
+        Sender {
+            phase: 1,
+            number: 0,
+            f3: [FILL; PAYLOAD_OCTETS],
+        }
     }
 
     // Starts again at another phase, before its first cell. Refuses a phase of 0 or above 2^31 - 1.

@@ -1,0 +1,3 @@
+pub mod Block
+pub mod BlockSource
+pub mod BlockSink

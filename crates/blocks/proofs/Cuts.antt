@@ -1,14 +1,12 @@
 -- The cells that a block is cut into.
 use Prim.Native.Nat.{ℕ, suc, _+_, _-_, _≤_, _<_, min}
-use mathlib.Core.Path.{_≡_, refl, sym, ap, _∙_}
+use mathlib.Core.Path.{_≡_, refl}
 use mathlib.Core.Bool.{Bool, true, false, cond}
 use mathlib.Core.List.{List, [], _∷_}
-use borrow.Author.Tests.{leb-true, leb-false}
-use lib.Dec.{leb}
 use lib.ListN.{length, take}
 use native.Mathlib.Omega.{arith}
+use Rattle.ring.proofs.Cut.{take-min}
 use Rattle.std.proofs.shelf.Counted.{length-map-counting}
-use Rattle.std.proofs.shelf.Lists.{take-all}
 use Rattle.cell.specs.Header.{reserved}
 use Rattle.ports.specs.Cell.{Cell}
 use Rattle.blocks.specs.Block.{payloadAt, payloadCount, cellsFrom, cellsOf}
@@ -27,19 +25,6 @@ no-cells header block i n h =
 
 pub length-cells : (header : ℕ) (block : List ℕ) (i n : ℕ) → length (cellsFrom header block i n) ≡ n - i
 length-cells header block i n = length-map-counting (λ k. record { header = header; payload = payloadAt block k }) i (n - i)
-
--- as many octets as there are, or the most that are used
-pub take-min : (m : ℕ) (block : List ℕ) → take (min (length block) m) block ≡ take m block
-take-min m block = go (leb (length block) m) refl
-  where
-    go : (b : Bool) → leb (length block) m ≡ b → take (min (length block) m) block ≡ take m block
-    go true e =
-        let h = leb-true _ _ e in
-        let same : min (length block) m ≡ length block = omega arith in
-        rw same (take-all (length block) block (omega arith) ∙ sym (take-all m block h))
-    go false e =
-        let h = leb-false _ _ e in
-        let same : min (length block) m ≡ m = omega arith in rw same refl
 
 pub cut : (header used : ℕ) (block : List ℕ) → used ≡ cond (reserved header) 0 (min (length block) 65536) → cellsOf header (take used block) ≡ sourceOf header block
 cut header used block e = go (reserved header) e

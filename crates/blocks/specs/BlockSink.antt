@@ -14,7 +14,7 @@ use lib.Dec.{eqb}
 use lib.ListN.{length}
 use lib.Seq.{paste}
 use native.Mathlib.Omega.{arith}
-use denote.Ref.{now}
+use denote.Ref.{now, name}
 use Rattle.std.specs.Results.{Cases}
 use Rattle.std.specs.declared.result.Result.{Result}
 use Rattle.cell.specs.Header.{connectionOf, reserved}
@@ -43,6 +43,7 @@ blockBounded b k = go (eqb k (connectionOf (b .header .0)))
 pub record Filled (b : BlockSink) (payload : List ℕ) (b′ : BlockSink) : Type 0 where
   pub header : b′ .header .0 ≡ b .header .0
   pub filled : b′ .filled ≡ b .filled + 1
+  pub lent : name (b′ .block) ≡ name (b .block)
   pub block : now (b′ .block) ≡ paste (now (b .block)) (48 * b .filled) payload 48
 
 abbrev pub Stores : {X : Type 0} → BlockSink → List ℕ → Result X Refusal → BlockSink → Type 0

@@ -18,7 +18,7 @@ use Rattle.ring.specs.declared.ring.Ring.{Ring}
 use Rattle.ring.specs.Ring.{held, places, Pushed, Pushes}
 use Rattle.ports.specs.declared.user_cell.UserCell.{UserCell}
 use Rattle.ports.specs.Cell.{Cell, ofConnection}
-use Rattle.ports.specs.CellRing.{ringCells, ringState}
+use Rattle.ports.specs.CellRing.{ringCells, ringState, RingPut}
 use Rattle.ports.specs.Sink.{Put, PutAnswer}
 use Rattle.ports.specs.UserCell.{cellOf}
 
@@ -62,3 +62,8 @@ module _ (ring ring′ : Ring UserCell) (u : UserCell) where
   push-put (Err NoneWaiting) p = absurd (p .0)
   push-put (Err BadSampleWord) p = absurd (p .0)
   push-put (Err NoOnePhase) p = absurd (p .0)
+
+  -- and what it leaves in the ring
+  pub push-ring : {X : Type 0} (r : Result X Refusal) → Pushes ring u r ring′ → RingPut ring (u .header .0) (u .payload) r ring′
+  push-ring (Ok x) p = (rw (p .held, map-push cellOf (held ring) u), p .places)
+  push-ring (Err e) p = p .1

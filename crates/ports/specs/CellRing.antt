@@ -4,12 +4,18 @@
 --   ringUsers ring      each of them is a user cell
 --   ringState ring      as a sink it serves all user headers, and all connections share its free places
 --   ringBounded ring k  its space is below 2^31
+--   RingPut             what a put leaves in the ring: the cell behind all others, and as many places; or, refused, the very same ring
+--   RingTake            a take leaves as many places, so that one more is free; or, refused, the very same ring
 use Prim.Native.Nat.{ℕ, _-_, _^_, _<_}
 use mathlib.Core.Bool.{not}
-use mathlib.Core.List.{List, [], _∷_, map}
+use mathlib.Core.Path.{_≡_}
+use mathlib.Core.List.{List, [], _∷_, _++_, map}
 use lib.ListN.{length}
 use native.Mathlib.Omega.{arith}
+use Rattle.std.specs.Results.{Cases}
+use Rattle.std.specs.declared.result.Result.{Result}
 use Rattle.std.specs.shelf.Lists.{All}
+use Rattle.cell.specs.declared.refusal.Refusal.{Refusal}
 use Rattle.cell.specs.Header.{reserved}
 use Rattle.ring.specs.declared.ring.Ring.{Ring}
 use Rattle.ring.specs.Ring.{held, places}
@@ -38,3 +44,11 @@ ringState ring = record {
 pub ringBounded : (ring : Ring UserCell) (k : ℕ) → ringState ring .space k < 2 ^ 31
 unfolding places
 ringBounded ring k = omega arith
+
+abbrev pub RingPut : {X : Type 0} → Ring UserCell → ℕ → List ℕ → Result X Refusal → Ring UserCell → Type 0
+RingPut ring header payload r ring′ =
+    Cases r (λ _. (ringCells ring′ ≡ ringCells ring ++ record { header = header; payload = payload } ∷ []) × (places ring′ ≡ places ring))
+    (λ _. ring′ ≡ ring)
+
+abbrev pub RingTake : {X : Type 0} → Ring UserCell → Result X Refusal → Ring UserCell → Type 0
+RingTake ring r ring′ = Cases r (λ _. places ring′ ≡ places ring) (λ _. ring′ ≡ ring)

@@ -2,7 +2,9 @@
 ghost use mathlib.Core.Path.{_≡_};
 ghost use lib.ListN.{length};
 ghost use Rattle.ring.specs.Ring.{held};
-ghost use Rattle.ports.specs.CellRing.{ringCells, ringUsers, ringState, ringBounded};
+ghost use Rattle.ports.specs.CellRing.{ringCells, ringUsers, ringState, ringBounded, RingPut, RingTake};
+ghost use Rattle.ports.specs.Sink.{PutAnswer};
+ghost use Rattle.ports.specs.Source.{Takes};
 use crate::sink::Sink;
 use crate::source::CountedSource;
 use crate::source::Source;
@@ -26,7 +28,10 @@ pub impl Source for Ring<'_, UserCell> as RingSource {
         Ok(())
     }
 
-    fn take(&mut self, place: &mut [u8]) -> Result<(), Refusal> {
+    fn take(&mut self, place: &mut [u8]) -> Result<(), Refusal>
+        ensures answer { λ r. ⌜ Takes (ringCells (now (self .entry))) (now (place .entry)) r (now (place .exit)) (ringCells (now (self .exit))) ⌝ }
+        ensures ring { λ r. ⌜ RingTake (now (self .entry)) r (now (self .exit)) ⌝ }
+    {
         if place.len() != CELL_OCTETS {
             return Err(Refusal::WrongLength);
         }
@@ -54,7 +59,10 @@ pub impl Sink for Ring<'_, UserCell> as RingSink {
 
     ghost bounded = { ringBounded };
 
-    fn put(&mut self, header: Header, payload: &[u8]) -> Result<(), Refusal> {
+    fn put(&mut self, header: Header, payload: &[u8]) -> Result<(), Refusal>
+        ensures answer { λ r. ⌜ PutAnswer (ringState (now (self .entry))) (header .0) (now (payload .entry)) r (ringState (now (self .exit))) ⌝ }
+        ensures ring { λ r. ⌜ RingPut (now (self .entry)) (header .0) (now (payload .entry)) r (now (self .exit)) ⌝ }
+    {
         match UserCell::new(header, payload) {
             Ok(cell) => self.push(cell),
             Err(e) => Err(e),

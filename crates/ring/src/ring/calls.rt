@@ -2,7 +2,7 @@
 ghost use mathlib.Core.Path.{_≡_};
 ghost use mathlib.Core.List.{[]};
 ghost use Prim.Native.Nat.{_≤_, min};
-ghost use lib.ListN.{length};
+ghost use lib.ListN.{length, take};
 ghost use Rattle.ring.specs.Ring.{held, places, Pushes, Shows, Pops};
 use super::Ring;
 use super::places::place_after;
@@ -14,6 +14,7 @@ impl<'a, T: Copy> Ring<'a, T> {
     pub fn new(slots: &'a mut [T]) -> Ring<'a, T>
         ensures empty { λ r. ⌜ held r ≡ [] ⌝ }
         ensures places { λ r. ⌜ places r ≡ min (length (now (slots .entry))) 1024 ⌝ }
+        ensures first { λ r. ⌜ now (r .slots) ≡ take 1024 (now (slots .entry)) ⌝ }
     {
         let used = places_used(slots.len());
         Ring {

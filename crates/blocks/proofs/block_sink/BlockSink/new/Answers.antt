@@ -3,7 +3,7 @@ use mathlib.Core.Path.{_≡_, _∙_, ap}
 use lib.ListN.{length, take, length-take}
 use native.Mathlib.Omega.{arith}
 use Rattle.blocks.specs.BlockSink.{sinkState}
-use Rattle.blocks.proofs.Cuts.{take-min}
+use Rattle.ring.proofs.Cut.{take-min}
 use Rattle.blocks.proofs.block_sink.BlockSink.new.Needs as need
 
 pub returns : need.returns

@@ -10,12 +10,14 @@ from pathlib import Path
 import coding_vectors
 import headers
 import self_check
+import send
 
 CRATES = Path(__file__).resolve().parent.parent / "crates"
 
 # The crates whose files are made here, and what makes them.
 MAKERS = {
     "headers": headers.files,
+    "send": send.files,
     "coding_vectors": coding_vectors.files,
 }
 

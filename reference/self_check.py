@@ -1,13 +1,14 @@
-"""The reference held to the worked values and to 17 idle cells from a line."""
+"""The reference held to the worked values, to 17 idle cells from a line, and to what a sent stream is."""
 
 from typing import List
 
 from bits import bits_of, number_of
 from check_octet import agrees, check_octet
-from coding import code_cell, decode_cell, line_header, samples
+from coding import PAYLOAD_OCTETS, code_cell, decode_cell, line_header, samples
 from finder import CELLS, find_phase, sample_word, word_of_samples
-from generator import PHASE_BITS, next_phase, phase_before
+from generator import CELL_BITS, PHASE_BITS, forward, next_phase, phase_before, phase_bits
 from idle_cells import IDLE_CELL, line_cells
+from sender import F3, F3_PERIOD, USER, Sender
 
 CHECK_OCTETS = {
     0x00000000: 0x55,
@@ -66,7 +67,31 @@ def idle_cells() -> None:
         expect(f"idle cell {number} decoded", decode_cell(line, phase), IDLE_CELL)
 
 
+def sent_stream() -> None:
+    """Cell number k is coded at the start's phase, moved on by 424 steps k times; every 432nd is an F3 cell, and users wait in order."""
+    start, cells = 0x3ECFEDE8, 2 * F3_PERIOD + 40
+    generated = forward(phase_bits(start), CELL_BITS * cells)
+    users = [bytes([0x01, 0x10, 0x41, 0x20]) + bytes([k % 256]) * PAYLOAD_OCTETS for k in range(F3_PERIOD)]
+    waiting, got = list(users), []
+    sender = Sender()
+    sender.start(start)
+    for k in range(cells):
+        # some calls are lent nothing
+        line, kind = sender.send(waiting if k % 7 else [])
+        phase = number_of(generated[CELL_BITS * k:CELL_BITS * k + PHASE_BITS])
+        cell = decode_cell(line, phase)
+        expect(f"sent cell {k}", code_cell(cell, phase), line)
+        expect(f"kind of cell {k}", kind == F3, k % F3_PERIOD == 0)
+        if kind == USER:
+            got.append(cell)
+        else:
+            header = "00000009" if kind == F3 else "00000001"
+            expect(f"{kind} cell {k}", cell, bytes.fromhex(header) + bytes([0x6A]) * PAYLOAD_OCTETS)
+    expect("users sent", (got, waiting), (users, []))
+
+
 def run() -> None:
     worked_values()
     finder_undoes_sampling()
     idle_cells()
+    sent_stream()

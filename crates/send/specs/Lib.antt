@@ -1,0 +1,4 @@
+pub mod Tally
+pub mod Number
+pub mod Name
+pub mod Arguments

@@ -32,9 +32,9 @@ fn number(answer: Result<(), Refusal>) -> u8 {
     }
 }
 
-// Wrong lengths first, then reserved headers, then no space.
+// Wrong lengths first, then an empty ring; neither writes to the place.
 #[test]
-fn a_ring_refuses() -> Result<(), Fail> {
+fn an_empty_ring_refuses() -> Result<(), Fail> {
     let mut slots = [UserCell::blank(); 1];
     let mut ring = Ring::new(&mut slots);
     let mut place = [7; 53];
@@ -42,15 +42,22 @@ fn a_ring_refuses() -> Result<(), Fail> {
     check(number(ring.take(&mut place[0..53])) == 4)?;
     check(number(ring.look(&mut place[0..52])) == 8)?;
     check(number(ring.take(&mut place[0..52])) == 8)?;
-    check(place[0] == 7 && place[51] == 7)?;
+    check(place[0] == 7 && place[51] == 7)
+}
+
+// Wrong lengths first, then reserved headers, then no space.
+#[test]
+fn a_full_ring_refuses() -> Result<(), Fail> {
+    let mut slots = [UserCell::blank(); 1];
+    let mut ring = Ring::new(&mut slots);
     check(number(ring.put(Header::IDLE, &[1; 47])) == 4)?;
-    check(number(ring.put(Header::IDLE, &[1; 48])) == 5)?;
     check(number(ring.put(Header::F3, &[1; 48])) == 5)?;
     ring.put(USER, &[1; 48])?;
-    check(number(ring.put(Header::F3, &[1; 48])) == 5)?;
+    check(number(ring.put(Header::IDLE, &[1; 48])) == 5)?;
     check(number(ring.put(USER, &[1; 48])) == 7)?;
-    ring.look(&mut place[0..52])?;
-    check(place[2] == 6 && place[3] == 0x40 && place[51] == 1 && place[52] == 7)
+    let mut place = [7; 52];
+    ring.look(&mut place)?;
+    check(place[2] == 6 && place[3] == 0x40 && place[51] == 1)
 }
 
 #[test]

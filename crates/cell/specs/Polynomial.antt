@@ -1,4 +1,4 @@
--- Polynomials over GF(2) as numbers: bit i is the coefficient of x^i, so that bitXor is their sum and their difference.
+-- Polynomials over GF(2) as numbers: bit i is the coefficient of x^i, so that bit_xor is their sum and their difference.
 --
 --   divisor           x^8 + x^2 + x + 1
 --   coefficient i p   the coefficient of x^i in p

@@ -6,5 +6,5 @@ pub returns : goal.returns
 returns c = (
   search rules,
   search rules,
-  (refl, add_comm 4 c.args.octets.ptr.1, take_all _ _ (simp length-drop (omega arith))),
+  (refl, add_comm 4 c.args.octets.ref_ptr.1, take_all _ _ (simp length-drop (omega arith))),
 )

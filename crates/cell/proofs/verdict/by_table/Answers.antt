@@ -7,8 +7,8 @@ pub returns : goal.returns
 returns c =
     let table = c.args.table.now in
     let s = c.args.syndrome in
-    let v = c.look-up.result in
-    let is = c.look-up.ensures in
+    let v = c.look_up.result in
+    let is = c.look_up.ensures in
     let within : s < length table = search rules in
     record {
       value = table_value table s v is within c.requires;

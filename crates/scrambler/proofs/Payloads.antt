@@ -24,12 +24,12 @@ octet_later : (m k p : ℕ) → octet_ahead k (iterate m step p) ≡ octet_ahead
 unfolding octet_ahead
 octet_later m k p = ap (λ (x : ℕ). x % 2 ^ 8) (iterate_add m (k + 8) step p ∙ ap (λ (n : ℕ). iterate n step p) (omega arith))
 
-step-none : (p : ℕ) → p ≡ iterate 0 step p
+step_none : (p : ℕ) → p ≡ iterate 0 step p
 unfolding iterate
-step-none p = refl
+step_none p = refl
 
 pub steps_of : (k p r : ℕ) → Steps k p r → r ≡ iterate (0 + k) step p
-steps_of k p r s = s 0 p (step-none p)
+steps_of k p r s = s 0 p (step_none p)
 
 -- one turn: q is the phase before it, word the one after
 module _ (first old new : List ℕ) (phase i q word : ℕ)

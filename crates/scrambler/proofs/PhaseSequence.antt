@@ -57,18 +57,18 @@ module _ (q : ℕ) (small : q < 2 ^ 31) where
       }
 
   -- the first k bits from a place are the top ones of the phase there
-  top-bits : (n k : ℕ) → k ≤ 31 → bits_at (oldest q) n k ≡ iterate n step q / 2 ^ (31 - k)
+  top_bits : (n k : ℕ) → k ≤ 31 → bits_at (oldest q) n k ≡ iterate n step q / 2 ^ (31 - k)
   unfolding bits_at
-  top-bits n zero h = let b = steps_lt n q small in omega arith
-  top-bits n (suc k) h =
+  top_bits n zero h = let b = steps_lt n q small in omega arith
+  top_bits n (suc k) h =
       let x : ℕ = iterate n step q in
       let e : 31 - k ≡ 30 - k + 1 = omega arith in
       let d : 31 - suc k ≡ 30 - k = omega arith in
-      ap₂ (λ (y z : ℕ). y * 2 + z) (top-bits n k (omega arith)) (later n k ∙ oldest_is k x (omega arith) (steps_lt n q small))
+      ap₂ (λ (y z : ℕ). y * 2 + z) (top_bits n k (omega arith)) (later n k ∙ oldest_is k x (omega arith) (steps_lt n q small))
       ∙ ap (λ (m : ℕ). x / 2 ^ m * 2 + x / 2 ^ (30 - k) % 2) e ∙ level x 1 (30 - k) ∙ ap (λ (m : ℕ). x / 2 ^ m) (sym d)
 
   phase_is : (n : ℕ) → phase_at (oldest q) n ≡ iterate n step q
-  phase_is n = top-bits n 31 (omega arith) ∙ omega arith
+  phase_is n = top_bits n 31 (omega arith) ∙ omega arith
 
 pub each_on : (p m : ℕ) → p < 2 ^ 31 → OnSequence p m
 each_on p m h =

@@ -1,6 +1,6 @@
 -- The worked values, by one test that is computed over the whole table.
 use Rattle.std.proofs.Common.{◌≡◌, ℕ, ◌%◌, ◌^◌, ◌<◌, Bool, true, false, cond, T, eqb, ltb, List, [], ◌∷◌, length, take, Ok, Err, Result, sym, refl, ap, ◌∙◌, ap₂, mod-lt, arith, eqb→eq, ltb→lt, pow_pos, le-ltb}
-use Rattle.std.specs.List.{AllByRecursion as All}
+use Rattle.std.specs.List.{AllByRecursion}
 use Rattle.cell.specs.CheckOctet.{check_octet, syndrome}
 use Rattle.cell.specs.Polynomial.{remainder}
 use Rattle.cell.specs.Tests.{both}
@@ -12,7 +12,7 @@ use Rattle.cell.proofs.Verdicts.{ruled_value}
 use Rattle.scrambler.specs.Generator.{step, back, iterate, ahead, ago, octet_ahead, next_phase}
 use Rattle.scrambler.specs.Coding.{header_mask, masked, coded}
 use Rattle.scrambler.specs.Finder.{samples_of, sample_word, times_rows, phase_rows, found}
-use Rattle.scrambler.specs.WorkedValues.{Worked, check_octet_lem, received, followed_by, idle_starts, samples_give, idle_cell, Holds, worked_values, WorkedValuesHold}
+use Rattle.scrambler.specs.WorkedValues.{Worked, has_check_octet, received, followed_by, idle_starts, samples_give, idle_cell, Holds, worked_values, WorkedValuesHold}
 use Rattle.scrambler.proofs.Rows.{one_phase_lem}
 
 same : List ℕ → List ℕ → Bool
@@ -30,7 +30,7 @@ same_is (x ∷ xs) (y ∷ ys) t =
     ap₂ ◌∷◌ (eqb→eq x y (both_left (eqb x y) (same xs ys) t)) (same_is xs ys (both_right (eqb x y) (same xs ys) t))
 
 test : Worked → Bool
-test (check_octet_lem h c) = eqb (check_octet h) c
+test (has_check_octet h c) = eqb (check_octet h) c
 test (received h c s v) = both (eqb (syndrome h c) s) (ruled s v)
 test (followed_by p q) = eqb (next_phase p) q
 test (idle_starts p xs) = same (take (length xs) (coded p idle_cell)) xs
@@ -48,7 +48,7 @@ found_is w p h e =
 
 holds : (l : Worked) → T (test l) → Holds l
 unfolding test
-holds (check_octet_lem h c) t = eqb→eq (check_octet h) c t
+holds (has_check_octet h c) t = eqb→eq (check_octet h) c t
 holds (received h c s v) t =
     (eqb→eq (syndrome h c) s (both_left (eqb (syndrome h c) s) (ruled s v) t), ruled_value s v (both_right (eqb (syndrome h c) s) (ruled s v) t))
 holds (followed_by p q) t = eqb→eq (next_phase p) q t
@@ -61,7 +61,7 @@ all : List Worked → Bool
 all [] = true
 all (l ∷ ls) = both (test l) (all ls)
 
-all_hold : (ls : List Worked) → T (all ls) → All Holds ls
+all_hold : (ls : List Worked) → T (all ls) → AllByRecursion Holds ls
 unfolding all
 all_hold [] t = tt
 all_hold (l ∷ ls) t = (holds l (both_left (test l) (all ls) t), all_hold ls (both_right (test l) (all ls) t))

@@ -7,8 +7,8 @@ use Rattle.scrambler.proofs.coding.code_header.Goals as goal
 pub returns : goal.returns
 returns c =
     record {
-      value = c.scramble-header.ensures;
+      value = c.scramble_header.ensures;
       samples =
-          subst (λ (l : LineHeader). CarriesSamples l c.args.phase) (sym c.scramble-header.ensures)
+          subst (λ (l : LineHeader). CarriesSamples l c.args.phase) (sym c.scramble_header.ensures)
           (carries_samples c.args.header.0 c.args.phase);
     }

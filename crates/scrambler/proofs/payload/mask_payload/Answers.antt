@@ -5,9 +5,9 @@ use Rattle.scrambler.proofs.payload.mask_payload.Goals as goal
 
 pub loop-i-init : goal.loop-i-init
 loop-i-init c = (
-  c.past-hec-p.ensures.small,
+  c.past_hec-p.ensures.small,
   search rules,
-  steps_of 8 c.args.phase c.past-hec-p.result c.past-hec-p.ensures.on,
+  steps_of 8 c.args.phase c.past_hec-p.result c.past_hec-p.ensures.on,
   (λ k h. absurd (let z : ⊥ = omega arith in z)),
   λ k h. refl,
 )
@@ -17,15 +17,15 @@ loop-i-preserved c =
     let i : ℕ = c.loop-i.i in
     let p : ℕ = c.args.phase in
     let inv = c.loop-i.invariant in
-    let on = c.steps-on-p.ensures.on in
+    let on = c.steps_on-p.ensures.on in
     let small : c.loop-i.p < 2 ^ 32 = omega (arith, inv.0) in (
-      c.steps-on-p.ensures.small,
+      c.steps_on-p.ensures.small,
       search rules,
       on (8 + 24 * i) p inv.2 ∙ ap (λ (n : ℕ). iterate n step p) (omega arith),
-      more_done c.args.payload.now c.loop-i.payload c.mask-three.new.payload p i c.loop-i.p c.steps-on-p.result
-          inv.2 small on c.mask-three.ensures.within c.mask-three.ensures.without inv.3 inv.4,
-      less_left c.args.payload.now c.loop-i.payload c.mask-three.new.payload p i c.loop-i.p c.steps-on-p.result
-          inv.2 small on c.mask-three.ensures.within c.mask-three.ensures.without inv.3 inv.4,
+      more_done c.args.payload.now c.loop-i.payload c.mask_three.new.payload p i c.loop-i.p c.steps_on-p.result
+          inv.2 small on c.mask_three.ensures.within c.mask_three.ensures.without inv.3 inv.4,
+      less_left c.args.payload.now c.loop-i.payload c.mask_three.new.payload p i c.loop-i.p c.steps_on-p.result
+          inv.2 small on c.mask_three.ensures.within c.mask_three.ensures.without inv.3 inv.4,
     )
 
 pub returns : goal.returns

@@ -3,4 +3,4 @@ use Rattle.scrambler.proofs.samples.header_mask.Goals as goal
 
 pub returns : goal.returns
 unfolding header_mask
-returns c = c.mask-word.ensures
+returns c = c.mask_word.ensures

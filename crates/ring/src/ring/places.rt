@@ -16,7 +16,9 @@ pub(super) fn places_used(lent: usize) -> usize
 
 // The place that lies `steps` after another, the first one coming after the last.
 pub(super) fn place_after(at: usize, steps: usize, places: usize) -> usize
-    requires { (at < places) × ((steps ≤ places) × (places ≤ 1024)) }
+    requires at { at < places }
+    requires steps { steps ≤ places }
+    requires few { places ≤ 1024 }
     ensures value { result ≡ around places (at + steps) }
     ensures inside { result < places }
 {

@@ -3,9 +3,9 @@ use Rattle.ring.specs.Ring.{held}
 use Rattle.ring.proofs.Windows.{window-none_at, window_pop}
 use Rattle.ring.proofs.ring.Ring.front.Goals as goal
 
-pub returns-then-is-empty : goal.returns-then-is-empty
+pub returns-then-is_empty : goal.returns-then-is_empty
 unfolding held
-returns-then-is-empty g c = (refl, window-none_at _ _ _ (omega (arith, true-eqb)))
+returns-then-is_empty g c = (refl, window-none_at _ _ _ (omega (arith, true-eqb)))
 
 pub returns : goal.returns
 unfolding held

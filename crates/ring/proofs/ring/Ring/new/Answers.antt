@@ -8,5 +8,5 @@ pub returns : goal.returns
 unfolding held places
 returns g c =
     let xs = c.args.slots.now in
-    let used : c.places-used-used.result - 0 ≡ min (length xs) 1024 = omega arith in
+    let used : c.places_used-used.result - 0 ≡ min (length xs) 1024 = omega arith in
     record { empty = window-none _ _; places = simp length-take (omega arith); first = ap (λ n. take n xs) used ∙ take_min 1024 xs }

@@ -4,4 +4,4 @@ use Rattle.ring.proofs.ring.Ring.places.Goals as goal
 
 pub returns : goal.returns
 unfolding places
-returns g c = record { value = c.number-lent.ensures; small = omega arith }
+returns g c = record { value = c.number_lent.ensures; small = omega arith }

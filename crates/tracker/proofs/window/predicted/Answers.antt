@@ -5,4 +5,4 @@ use Rattle.tracker.proofs.window.predicted.Goals as goal
 
 pub returns : goal.returns
 unfolding predicted
-returns c = omega (arith, c.predicted-samples.ensures)
+returns c = omega (arith, c.predicted_samples.ensures)

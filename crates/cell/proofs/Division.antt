@@ -1,5 +1,5 @@
 -- Long division by the divisor: it is linear, it finds the one remainder, and it may go octet by octet.
-use Rattle.std.proofs.Common.{◌≡◌, ℕ, zero, suc, ◌+◌, ◌*◌, ◌/◌, ◌%◌, ◌^◌, ◌<◌, T, List, [], ◌∷◌, get_or, sym, refl, ap, ◌∙◌, subst, ap₂, mod-lt, div-one, arith, pow_pos}
+use Rattle.std.proofs.Common.{◌≡◌, ℕ, zero, suc, ◌+◌, ◌*◌, ◌/◌, ◌%◌, ◌^◌, ◌<◌, T, List, [], ◌∷◌, get_or, sym, ap, ◌∙◌, subst, ap₂, mod-lt, div-one, pow_pos}
 use lib.Bits.{bit_xor, bit_and}
 use Rattle.cell.specs.Linear.{Linear}
 use Rattle.cell.specs.Polynomial.{divisor, coefficient, product, remainder, Division, TheRemainder}

@@ -1,6 +1,5 @@
 -- Functions on numbers that go through exclusive or, and that two of them agree below 2 ^ n where they agree at 2 ^ 0 .. 2 ^ (n - 1).
-use Rattle.std.proofs.Common.{◌≡◌, ℕ, zero, suc, ◌+◌, ◌-◌, ◌*◌, ◌/◌, ◌%◌, ◌^◌, ◌<◌, ◌≤◌, min, Bool, true, false, T, eqb, ◌⊎◌, sym, refl, ap, ◌∙◌, subst, ap₂, inl, inr, add-zero, mod-lt, zero-lt-suc, mul_comm, div-lt_iff_lt-mul, one-mul, pow-suc, zero-mul, mul-one, arith, lit<, eqb→eq, pow_pos}
-use native.Mathlib.Nat.{zero-min, min-zero}
+use Rattle.std.proofs.Common.{◌≡◌, ℕ, zero, suc, ◌+◌, ◌*◌, ◌/◌, ◌%◌, ◌^◌, ◌<◌, Bool, true, T, eqb, ◌⊎◌, sym, refl, ap, ◌∙◌, subst, ap₂, inl, inr, add-zero, mod-lt, zero-lt-suc, mul_comm, div-lt_iff_lt-mul, one-mul, pow-suc, zero-mul, arith, eqb→eq, pow_pos}
 use lib.Arith.{bin_ind}
 use lib.Pow.{split}
 use lib.Bits.{bit_xor, bit_and, xor_self, xor_comm, xor_assoc, xor_shr, xor_mod, xor_block, xor_shifted, and_shr, and_mod}

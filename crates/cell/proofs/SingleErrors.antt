@@ -1,5 +1,5 @@
 -- The syndromes of single errors: none is 0, they differ, and the sum of two of them is none of them.
-use Rattle.std.proofs.Common.{◌≡◌, ℕ, ◌-◌, ◌<◌, Bool, not, T, eqb, List, map, get_or, sym, refl, ap, ◌∙◌, subst, ap₂, zero-add, arith, eqb→eq}
+use Rattle.std.proofs.Common.{◌≡◌, ℕ, ◌-◌, ◌<◌, Bool, not, T, eqb, List, map, get_or, sym, ap, ◌∙◌, subst, ap₂, zero-add, arith, eqb→eq}
 use native.Mathlib.Decide.{dec_lt}
 use lib.Bits.{bit_xor, xor_comm, xor_self}
 use Rattle.std.specs.List.{range_with_len}

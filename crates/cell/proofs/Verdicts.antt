@@ -1,7 +1,7 @@
 -- The verdict on a syndrome: trying the 40 bits finds it, and a table that passes the test has it at each entry.
 use Rattle.std.proofs.Common.{◌≡◌, ℕ, zero, suc, ◌-◌, ◌<◌, ◌≤◌, Bool, true, false, cond, not, T, eqb, ltb, ◌⊎◌, List, length, get_or, sym, refl, ap, ◌∙◌, subst, inl, inr, le_refl, arith, eqb→eq, ltb→lt}
 use native.Mathlib.Decide.{dec_lt}
-use Rattle.cell.specs.Tests.{both, below}
+use Rattle.cell.specs.Tests.{below}
 use Rattle.cell.specs.Verdict.{error_at, NoSuch, Rule, TwoErrors, wrong_below, verdict_of, entry}
 use Rattle.cell.specs.VerdictTest.{power_x, ruled, every_ruled}
 use Rattle.cell.specs.declared.verdict.Verdict.{Verdict}

@@ -1,5 +1,5 @@
 -- What wrong bits do to a syndrome, and that turning a wrong bit again restores what was sent.
-use Rattle.std.proofs.Common.{◌≡◌, ℕ, ◌+◌, ◌*◌, ◌/◌, ◌%◌, ◌^◌, ◌<◌, T, sym, refl, ap, ◌∙◌, subst, ap₂, lt_of_le_of_lt, arith, lit<}
+use Rattle.std.proofs.Common.{◌≡◌, ℕ, ◌*◌, ◌/◌, ◌%◌, ◌^◌, ◌<◌, sym, ap, ◌∙◌, ap₂, lt_of_le_of_lt, lit<}
 use lib.Bits.{bit_xor, xor_assoc, xor_comm, xor_self, xor_lt, xor_zero_r, xor_zero_l}
 use lib.Pow.{shr_le, high, low, recompose}
 use Rattle.cell.specs.Polynomial.{remainder}
@@ -7,7 +7,6 @@ use Rattle.cell.specs.CheckOctet.{syndrome}
 use Rattle.cell.specs.Verdict.{place, error_at, verdict_of}
 use Rattle.cell.specs.LineHeader.{bits40, of_bits, turned, Codeword, OneTold, TwoPast, Restored}
 use Rattle.cell.specs.declared.line_header.LineHeader.{LineHeader}
-use Rattle.cell.specs.declared.verdict.Verdict.TheVariants.{OneWrongBit, PastMending}
 use Rattle.cell.proofs.Linear.{lin_id, lin_xor, lin_comp, lin_shr, lin_shl, lin_mod, basis}
 use Rattle.cell.proofs.Division.{lin_remainder}
 use Rattle.cell.proofs.SingleErrors.{two_none}

@@ -1,4 +1,4 @@
-use Rattle.std.proofs.Common.{◌≡◌, ℕ, ◌*◌, ◌^◌, sym, subst, arith, rules}
+use Rattle.std.proofs.Common.{◌≡◌, ℕ, ◌*◌, ◌^◌, sym, subst, rules}
 use Rattle.cell.specs.Polynomial.{remainder, TheRemainder}
 use Rattle.cell.proofs.Division.{by_octets, the_remainder, lin_remainder}
 use Rattle.cell.proofs.check_octet.header_remainder.Goals as goal

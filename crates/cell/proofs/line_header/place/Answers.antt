@@ -1,4 +1,4 @@
-use Rattle.std.proofs.Common.{◌^◌, ◌<◌, sym, arith}
+use Rattle.std.proofs.Common.{◌<◌, sym, arith}
 use native.Mathlib.Nat.{div-eq_of_lt}
 use lib.Pow.{pow-lt}
 use Rattle.cell.proofs.line_header.place.Goals as goal

@@ -1,10 +1,10 @@
 -- What the words of the command line ask for, by the octets of each word.
 --
---   nothing             no argument is given
---   gave g n            what is given after the argument n, where g was given before: none may be given twice
---   taken g word        the same, by the word that names the argument
---   read_from g at words what is given after all words, of which the first is number `at`, or the number of the word at fault, and why
---   parsed words        what the words ask for
+--   nothing               no argument is given
+--   gave g n              what is given after the argument n, where g was given before: none may be given twice
+--   taken g word          the same, by the word that names the argument
+--   read_from g at words  what is given after all words, of which the first is number `at`, or the number of the word at fault, and why
+--   parsed words          what the words ask for
 use Rattle.std.specs.Prelude.{ℕ, ◌+◌, true, false, cond, List, [], ◌∷◌, Some, None, Ok, Err, Result}
 use Rattle.receive.specs.Name.{name_of}
 use Rattle.receive.specs.declared.name.Name.{Name}

@@ -1,12 +1,12 @@
 -- What came in on the line. Each counter stops at its top.
 --
---   none               nothing came yet
---   raised n by        the counter n, so much up, if it does not stop at its top, 2^64 - 1
---   counted n k t      the tally t with n octets and k cells more
+--   none                nothing came yet
+--   raised n by         the counter n, so much up, if it does not stop at its top, 2^64 - 1
+--   counted n k t       the tally t with n octets and k cells more
 --   counted_feed n r t  the tally t after a feed of n octets with the answer r: a refused feed counts for nothing
 --   Fed os n l cells events l' cells' events'
---                      the octets os were fed to the receiving end of the line l, which handed n cells up to the ring of cells and put its
---                      events into the ring of events
+--                       the octets os were fed to the receiving end of the line l, which handed n cells up to the ring of cells and put its
+--                       events into the ring of events
 --   summary_of l        what came in on the line l, and how its receiving end stands
 use Rattle.std.specs.Prelude.{◌≡◌, ℕ, ◌+◌, ◌-◌, ◌^◌, min, List, length, Ok, Err, Result}
 use Rattle.cell.specs.declared.refusal.Refusal.{Refusal}

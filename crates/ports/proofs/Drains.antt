@@ -1,13 +1,13 @@
 -- What one step of draining moves, and what a row of puts leaves in a sink.
-use Rattle.std.proofs.Common.{◌≡◌, ℕ, ◌^◌, ◌<◌, Bool, true, false, cond, eqb, List, [], ◌∷◌, ◌++◌, length, take, drop, Ok, Err, Result, sym, refl, ap, ◌∙◌, subst, append_assoc, arith, eqb-true}
+use Rattle.std.proofs.Common.{◌≡◌, ℕ, Bool, true, false, cond, eqb, List, [], ◌∷◌, ◌++◌, length, take, drop, Ok, Err, Result, sym, refl, ap, ◌∙◌, subst, append_assoc, arith, eqb-true}
 use borrow.Author.Tests.{eqb-false}
-use Rattle.std.specs.List.{AllByRecursion as All}
+use Rattle.std.specs.List.{AllByRecursion}
 use Rattle.std.proofs.lemmas.List.{append-nil}
 use Rattle.cell.specs.Header.{connection_of}
 use Rattle.cell.specs.Sorting.{header_of}
 use Rattle.cell.specs.declared.refusal.Refusal.{Refusal}
 use Rattle.cell.specs.declared.refusal.Refusal.TheVariants.{NoOctets, TooManyOctets, BadPhase, WrongLength, ReservedHeader, NotServed, NoSpace, NoneWaiting, BadSampleWord, NoOnePhase}
-use Rattle.ports.specs.Cell.{Cell, User, octets, of_connection}
+use Rattle.ports.specs.Cell.{Cell, User, of_connection}
 use Rattle.ports.specs.Drain.{Moves, Puts}
 use Rattle.ports.specs.Sink.{SinkState, Put}
 use Rattle.ports.specs.Source.{Taken, Takes}
@@ -32,9 +32,9 @@ puts_gain (c ∷ cs) s t (u, p, q) k = puts_gain cs u t q k ∙ go (eqb (connect
 
 -- a cell that was looked at, put and then taken
 module _ (cells rest rest' : List Cell) (place place' payload : List ℕ) (header : ℕ) (before after : SinkState)
-    (users : All User cells) (n : length place ≡ 52) (t : Taken cells place rest) (e : header ≡ header_of place) (f : payload ≡ take 48 (drop 4 place)) where
+    (users : AllByRecursion User cells) (n : length place ≡ 52) (t : Taken cells place rest) (e : header ≡ header_of place) (f : payload ≡ take 48 (drop 4 place)) where
   user : User t.cell
-  user = (subst (λ (x : List Cell). All User x) t.first users).0
+  user = (subst (λ (x : List Cell). AllByRecursion User x) t.first users).0
 
   the_header : header ≡ t.cell.header
   the_header = e ∙ ap header_of t.written ∙ header_read t.cell user.fits

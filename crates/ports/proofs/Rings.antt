@@ -1,14 +1,13 @@
 -- A cell pushed into a ring is put into it as a sink.
-use Rattle.std.proofs.Common.{◌≡◌, ℕ, ◌+◌, ◌-◌, ◌<◌, ◌≤◌, Bool, true, false, cond, eqb, List, [], ◌∷◌, ◌++◌, length, Ok, Err, filter, Result, sym, refl, ap, arith}
+use Rattle.std.proofs.Common.{◌≡◌, Bool, true, false, cond, eqb, List, [], ◌∷◌, ◌++◌, Ok, Err, filter, Result, sym, refl, ap, arith}
 use Rattle.std.proofs.lemmas.List.{map_push, length_push, append-nil}
 use Rattle.std.proofs.lemmas.Bool.{eq-eqb, ne_eqb}
 use Rattle.cell.specs.Header.{connection_of}
 use Rattle.cell.specs.declared.refusal.Refusal.{Refusal}
 use Rattle.cell.specs.declared.refusal.Refusal.TheVariants.{NoOctets, TooManyOctets, BadPhase, WrongLength, ReservedHeader, NotServed, NoSpace, NoneWaiting, BadSampleWord, NoOnePhase}
 use Rattle.ring.specs.declared.ring.Ring.{Ring}
-use Rattle.ring.specs.Ring.{held, places, Pushed, Pushes}
+use Rattle.ring.specs.Ring.{held, Pushed, Pushes}
 use Rattle.ports.specs.declared.user_cell.UserCell.{UserCell}
-use Rattle.ports.specs.Cell.{Cell, of_connection}
 use Rattle.ports.specs.CellRing.{ring_cells, ring_state, RingPut}
 use Rattle.ports.specs.Sink.{Put, PutAnswer}
 use Rattle.ports.specs.UserCell.{cell_of}

@@ -1,10 +1,10 @@
 -- A cell as sources and sinks have it: header and payload, without the check octet.
 --
---   Cell              a header, as a number, and the octets of a payload
---   octets c          the 52 octets of a cell
---   User c            c is a user cell: its header has 32 bits and is not reserved, its payload has 48 octets
---   of_connection k cs those of the cells cs that belong to connection k, in their order
-use Rattle.std.specs.Prelude.{◌≡◌, ℕ, ◌/◌, ◌%◌, ◌^◌, ◌<◌, false, List, [], ◌∷◌, ◌++◌, length, filter, nat_eq}
+--   Cell                a header, as a number, and the octets of a payload
+--   octets c            the 52 octets of a cell
+--   User c              c is a user cell: its header has 32 bits and is not reserved, its payload has 48 octets
+--   of_connection k cs  those of the cells cs that belong to connection k, in their order
+use Rattle.std.specs.Prelude.{◌≡◌, ℕ, ◌^◌, ◌<◌, false, List, ◌++◌, length, filter, nat_eq}
 use Rattle.cell.specs.Header.{connection_of, reserved}
 pub use Rattle.cell.specs.Sorting.{header_octets}
 

@@ -14,9 +14,9 @@ use cell::sizes::CELL_OCTETS;
 use ring::ring::Ring;
 
 impl Source for Ring<'_, UserCell> {
-    ghost waiting = { ringCells };
+    ghost waiting = { ring_cells };
 
-    ghost users = { ringUsers };
+    ghost users = { ring_users };
 
     fn look(&self, place: &mut [u8]) -> Result<(), Refusal> {
         if place.len() != CELL_OCTETS {
@@ -54,9 +54,9 @@ fn cells_held(ring: &Ring<'_, UserCell>) -> u32
 
 // It serves all user headers; all connections share its free places.
 impl Sink for Ring<'_, UserCell> {
-    ghost state = { ringState };
+    ghost state = { ring_state };
 
-    ghost bounded = { ringBounded };
+    ghost bounded = { ring_bounded };
 
     fn put(&mut self, header: Header, payload: &[u8]) -> Result<(), Refusal>
         ensures answer { PutAnswer (ring_state self.old) header.0 payload.now result (ring_state self.new) }

@@ -1,6 +1,6 @@
 // Sources: where user cells wait, and those that tell how many.
 ghost use Rattle.std.specs.Prelude.{◌≡◌, ℕ, min, List, length};
-ghost use Rattle.std.specs.List.{AllByRecursion as All};
+ghost use Rattle.std.specs.List.{AllByRecursion};
 ghost use Rattle.ports.specs.Cell.{Cell, User};
 ghost use Rattle.ports.specs.Source.{Looks, Takes};
 
@@ -11,7 +11,7 @@ pub trait Source {
     ghost waiting: { Self → List Cell };
 
     // each of them is a user cell: none has a reserved header
-    ghost users: { (s : Self) → All User (waiting s) };
+    ghost users: { (s : Self) → AllByRecursion User (waiting s) };
 
     // Writes the first cell into a place of 52 octets. Refuses another length, and where none waits.
     fn look(&self, place: &mut [u8]) -> Result<(), Refusal>

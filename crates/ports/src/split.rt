@@ -17,9 +17,9 @@ pub struct Split<L, R> {
 }
 
 impl<L: Sink, R: Sink> Sink for Split<L, R> {
-    ghost state = { λ s. splitState s.boundary (L.Sink.state s.left) (R.Sink.state s.right) };
+    ghost state = { λ s. split_state s.boundary (L.Sink.state s.left) (R.Sink.state s.right) };
 
-    ghost bounded = { λ s. splitBounded s.boundary (L.Sink.state s.left) (R.Sink.state s.right) (L.Sink.bounded s.left) (R.Sink.bounded s.right) };
+    ghost bounded = { λ s. split_bounded s.boundary (L.Sink.state s.left) (R.Sink.state s.right) (L.Sink.bounded s.left) (R.Sink.bounded s.right) };
 
     fn put(&mut self, header: Header, payload: &[u8]) -> Result<(), Refusal>
         ensures answer { PutAnswer (split_state self.old.boundary (L.Sink.state self.old.left) (R.Sink.state self.old.right)) header.0 payload.now result (split_state self.new.boundary (L.Sink.state self.new.left) (R.Sink.state self.new.right)) }

@@ -3,4 +3,4 @@ use Rattle.ports.specs.UserCell.{cell_of}
 use Rattle.ports.proofs.cell_ring.RingUserCellSource.look.Goals as goal
 
 pub returns : goal.returns
-returns c = (omega arith, (_, record { cell = _; first = ap (map cell_of) c.in-ok-cell.ensures; written = c.fill.ensures }))
+returns c = (omega arith, (_, record { cell = _; first = ap (map cell_of) c.in_ok-cell.ensures; written = c.fill.ensures }))

@@ -1,12 +1,10 @@
 -- A coded header carries its samples, and a coded cell is decoded to the cell again.
-use Rattle.std.proofs.Common.{◌≡◌, ℕ, zero, suc, ◌+◌, ◌*◌, ◌/◌, ◌%◌, ◌^◌, ◌<◌, ◌≤◌, true, T, List, [], ◌∷◌, ◌++◌, length, get_or, drop, set, sym, refl, ap, ◌∙◌, subst, ap₂, append-nil, mod-lt, arith, pow_pos, shr-shr, eq-eqb}
+use Rattle.std.proofs.Common.{◌≡◌, ℕ, ◌+◌, ◌*◌, ◌/◌, ◌%◌, ◌^◌, ◌<◌, List, [], ◌∷◌, ◌++◌, length, get_or, drop, set, sym, refl, ap, ◌∙◌, ap₂, append-nil, mod-lt, arith, pow_pos, eq-eqb}
 use borrow.Rule.Slice.PartMut.{put_mid, post_of}
 use lib.Arith.{digits_mod}
 use lib.Bits.{bit_xor, xor_assoc, xor_self, xor_zero_l, xor_zero_r, xor_lt}
-use lib.Pow.{split}
 use Rattle.cell.specs.CheckOctet.{check_octet}
 use Rattle.cell.specs.LineHeader.{syndrome_of}
-use Rattle.cell.specs.Polynomial.{remainder}
 use Rattle.cell.specs.Sorting.{header_of}
 use Rattle.cell.specs.declared.line_header.LineHeader.{LineHeader}
 use Rattle.cell.proofs.Fields.{level}

@@ -1,10 +1,10 @@
 -- The sum of the bits of a number: it is linear, it is what counting the ones gives, and it computes.
-use Rattle.std.proofs.Common.{◌≡◌, ℕ, zero, suc, ◌+◌, ◌/◌, ◌%◌, ◌^◌, ◌<◌, T, sym, refl, ap, ◌∙◌, subst, ap₂, lt_of_le_of_lt, add-one, arith, shr_lt}
+use Rattle.std.proofs.Common.{◌≡◌, ℕ, zero, suc, ◌+◌, ◌/◌, ◌%◌, ◌^◌, ◌<◌, sym, refl, ap, ◌∙◌, subst, ap₂, lt_of_le_of_lt, add-one, arith, shr_lt}
 use lib.Arith.{lt-one}
 use lib.Bits.{bit_xor, bit_and, and_mask, and_le_l, xor_mod, xor_add_and}
 use lib.Count.{ones, ones_step, ones_in}
 use Rattle.cell.specs.Linear.{Linear}
-use Rattle.cell.proofs.Linear.{lin_id, lin_xor, lin_comp, lin_shr, lin_mod, lin_and, agree, basis}
+use Rattle.cell.proofs.Linear.{lin_id, lin_xor, lin_comp, lin_shr, lin_mod, lin_and}
 
 -- the sum of the low k bits of n
 unfoldable pub parity : ℕ → ℕ → ℕ

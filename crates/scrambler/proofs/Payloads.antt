@@ -1,9 +1,7 @@
 -- A payload masked three octets at a time, and freed by the same mask.
-use Rattle.std.proofs.Common.{◌≡◌, ℕ, zero, suc, ◌+◌, ◌-◌, ◌*◌, ◌/◌, ◌%◌, ◌^◌, ◌<◌, ◌≤◌, T, ◌⊎◌, List, [], ◌∷◌, length, get_or, sym, refl, ap, ◌∙◌, ap₂, inl, inr, le_of_suc-le-suc, add-zero, arith}
+use Rattle.std.proofs.Common.{◌≡◌, ℕ, suc, ◌+◌, ◌-◌, ◌*◌, ◌/◌, ◌%◌, ◌^◌, ◌<◌, ◌≤◌, ◌⊎◌, List, [], ◌∷◌, length, get_or, sym, refl, ap, ◌∙◌, ap₂, inl, inr, add-zero, arith}
 use native.Mathlib.Decide.{dec_lt}
 use lib.Bits.{bit_xor, xor_assoc, xor_self, xor_zero_r}
-use Rattle.cell.specs.Linear.{Linear}
-use Rattle.cell.specs.Tests.{below}
 use Rattle.cell.proofs.Linear.{lin_shr, lin_mod, agree, basis}
 use Rattle.cell.proofs.Table.{below_at}
 use Rattle.scrambler.specs.Generator.{step, iterate, octet_ahead, Steps}

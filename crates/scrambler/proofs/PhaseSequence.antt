@@ -1,7 +1,6 @@
 -- Each phase lies on a sequence of bits that obeys the recurrence: the bit at a place is the oldest one of the phase there.
-use Rattle.std.proofs.Common.{◌≡◌, ℕ, zero, suc, ◌+◌, ◌-◌, ◌*◌, ◌/◌, ◌%◌, ◌^◌, ◌<◌, ◌≤◌, T, sym, refl, ap, ◌∙◌, subst, ap₂, add-one, arith}
+use Rattle.std.proofs.Common.{◌≡◌, ℕ, zero, suc, ◌+◌, ◌-◌, ◌*◌, ◌/◌, ◌%◌, ◌^◌, ◌<◌, ◌≤◌, sym, refl, ap, ◌∙◌, ap₂, add-one, arith}
 use lib.Bits.{bit_xor, xor_lt}
-use Rattle.cell.specs.Tests.{below}
 use Rattle.cell.proofs.Fields.{level}
 use Rattle.cell.proofs.Linear.{lin_id, lin_xor, lin_shr, lin_mod, agree, basis}
 use Rattle.cell.proofs.Table.{below_at}

@@ -1,9 +1,9 @@
 -- The rows undo the sampling, and the sampling undoes the rows.
-use Rattle.std.proofs.Common.{◌≡◌, ℕ, zero, suc, ◌+◌, ◌*◌, ◌%◌, ◌^◌, ◌<◌, ◌≤◌, T, List, [], ◌∷◌, length, get_or, drop, sym, refl, ap, ◌∙◌, subst, ap₂, mod-lt, add-one, arith, drop-cons, pow_pos}
+use Rattle.std.proofs.Common.{◌≡◌, ℕ, zero, suc, ◌+◌, ◌*◌, ◌%◌, ◌^◌, ◌<◌, ◌≤◌, List, [], ◌∷◌, length, get_or, drop, sym, refl, ap, ◌∙◌, subst, ap₂, mod-lt, add-one, arith, drop-cons, pow_pos}
 use lib.Bits.{bit_xor, bit_and, and_mask}
 use lib.Count.{ones}
 use Rattle.cell.specs.Linear.{Linear}
-use Rattle.cell.proofs.Linear.{lin_id, lin_zero_word, lin_xor, lin_comp, lin_shl, lin_mod, agree, basis}
+use Rattle.cell.proofs.Linear.{lin_id, lin_zero_word, lin_xor, lin_comp, lin_shl, lin_mod, basis}
 use Rattle.scrambler.specs.Generator.{step, back, iterate, ahead, ago, before}
 use Rattle.scrambler.specs.Coding.{sample8, sample7}
 use Rattle.scrambler.specs.Finder.{samples_of, sample_word, OnePhase, times_from, times_rows, phase_rows}

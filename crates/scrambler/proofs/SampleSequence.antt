@@ -1,9 +1,9 @@
 -- The sample word, read on the sequence of bits: its samples lie 212 steps apart.
-use Rattle.std.proofs.Common.{◌≡◌, ℕ, zero, suc, ◌+◌, ◌-◌, ◌*◌, ◌/◌, ◌%◌, ◌^◌, ◌<◌, sym, refl, ap, ◌∙◌, ap₂, div-one, arith, shr-shr}
+use Rattle.std.proofs.Common.{◌≡◌, ℕ, zero, suc, ◌+◌, ◌-◌, ◌*◌, ◌/◌, ◌%◌, ◌^◌, ◌<◌, sym, ap, ◌∙◌, div-one, arith, shr-shr}
 use lib.Arith.{digits_div, digits_mod}
 use lib.Bits.{bit_xor, xor_assoc, xor_shifted}
 use lib.Pow.{field, mod-mod-pow}
-use Rattle.scrambler.specs.Generator.{ahead, ago, before}
+use Rattle.scrambler.specs.Generator.{ago, before}
 use Rattle.scrambler.specs.Coding.{sample8, sample7}
 use Rattle.scrambler.specs.Finder.{samples_of, sample_word}
 use Rattle.scrambler.specs.Sequence.{Generated, phase_at}

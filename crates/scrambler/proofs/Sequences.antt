@@ -1,8 +1,8 @@
 -- What the definitions on phases say of an endless sequence of bits that obeys the recurrence.
-use Rattle.std.proofs.Common.{◌≡◌, ℕ, zero, suc, ◌+◌, ◌-◌, ◌*◌, ◌/◌, ◌%◌, ◌^◌, ◌<◌, ◌≤◌, sym, refl, ap, ◌∙◌, subst, ap₂, add-zero, add_assoc, add-suc, mod-lt, mod-eq_of_lt, mul_assoc, add-mul, suc-add, pow-suc, zero-add, mul-one, add-one, arith, pow_pos}
+use Rattle.std.proofs.Common.{◌≡◌, ℕ, zero, suc, ◌+◌, ◌-◌, ◌*◌, ◌/◌, ◌%◌, ◌^◌, ◌<◌, sym, ap, ◌∙◌, ap₂, add-zero, add-suc, mod-eq_of_lt, mul_assoc, pow-suc, add-one, arith}
 use lib.Arith.{digits_div, digits_mod}
 use lib.Bits.{bit_xor, and_mask, xor_mod, xor_shifted, xor_comm, xor_assoc, xor_self, xor_zero_r}
-use Rattle.std.proofs.lemmas.Nat.{mod_low, shr_high, shr-shr}
+use Rattle.std.proofs.lemmas.Nat.{mod_low, shr-shr}
 use Rattle.scrambler.specs.Generator.{step, back, iterate, ahead, ago, octet_ahead}
 use Rattle.scrambler.specs.Coding.{header_mask}
 use Rattle.scrambler.specs.Sequence.{Generated, bits_at, phase_at}

@@ -1,9 +1,8 @@
 -- Steps of the generator: they are linear, one undoes the other, and several may be taken at once.
-use Rattle.std.proofs.Common.{◌≡◌, ℕ, zero, suc, ◌+◌, ◌-◌, ◌*◌, ◌/◌, ◌%◌, ◌^◌, ◌<◌, ◌≤◌, T, sym, refl, ap, ◌∙◌, subst, lt_of_lt_of_le, mod-lt, suc-add, zero-add, arith, lit≤, pow_pos}
+use Rattle.std.proofs.Common.{◌≡◌, ℕ, zero, suc, ◌+◌, ◌-◌, ◌*◌, ◌/◌, ◌%◌, ◌^◌, ◌<◌, ◌≤◌, sym, ap, ◌∙◌, subst, lt_of_lt_of_le, mod-lt, suc-add, zero-add, arith, lit≤, pow_pos}
 use lib.Bits.{bit_xor, bit_and, xor_lt}
 use Rattle.cell.specs.Linear.{Linear}
 use Rattle.cell.proofs.Linear.{lin_id, lin_xor, lin_comp, lin_shr, lin_shl, lin_mod, lin_and, agree, basis}
-use Rattle.cell.specs.Tests.{below}
 use Rattle.cell.proofs.Table.{below_at}
 use Rattle.scrambler.specs.Generator.{step, back, iterate, ahead, ago, octet_ahead, Steps}
 

@@ -1,4 +1,4 @@
-use Rattle.std.proofs.Common.{◌≡◌, ℕ, ◌<◌, List, ◌∷◌, ◌++◌, length, get_or, take, drop, sym, ap, ◌∙◌, subst, ap₂, arith, length-drop, take_all, rules}
+use Rattle.std.proofs.Common.{◌≡◌, ℕ, ◌<◌, List, ◌∷◌, ◌++◌, get_or, drop, ap, ◌∙◌, ap₂, arith, length-drop, take_all, rules}
 use Rattle.cell.specs.Sorting.{header_of}
 use Rattle.cell.specs.declared.line_header.LineHeader.{LineHeader}
 use Rattle.scrambler.specs.Coding.{coded_header, masked, header_octets, coded, decoded}

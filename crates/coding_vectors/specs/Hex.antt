@@ -1,11 +1,11 @@
 -- Lower-case hexadecimal digits: two to an octet, eight to a word.
 --
 --   digit_of c            the value of the digit that the letter c is, if it is one
---   joined unit a b      a times the unit plus b, where both are there
+--   joined unit a b       a times the unit plus b, where both are there
 --   octet_of a b          the value of two letters
 --   octet_at text i       the octet that the letters 2i and 2i + 1 spell
 --   word_of text          the word that a text of eight letters spells
---   SpellsOctets text xs the text spells the octets xs, and nothing else
+--   SpellsOctets text xs  the text spells the octets xs, and nothing else
 use Rattle.std.specs.Prelude.{◌≡◌, ℕ, ◌+◌, ◌-◌, ◌*◌, ◌^◌, ◌<◌, cond, List, length, Some, None, Option, ◌==◌, nat_lt, slice_index}
 
 abbrev pub digit_of : ℕ → Option ℕ

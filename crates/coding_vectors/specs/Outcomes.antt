@@ -2,9 +2,9 @@
 --
 --   found_outcome r        what comes of the finder's answer r
 --   header_right line p    the header of a cell on the line agrees, and its syndrome is the two samples of the phase p
---   ComesBack cell p line header and payload of the line, descrambled at p, are those of the cell
---   CellOutcome cell p o  what comes of coding a cell at p
---   Answers c o           what comes of a case
+--   ComesBack cell p line  header and payload of the line, descrambled at p, are those of the cell
+--   CellOutcome cell p o   what comes of coding a cell at p
+--   Answers c o            what comes of a case
 use Rattle.std.specs.Prelude.{◌≡◌, ℕ, ◌^◌, ◌<◌, Bool, false, cond, List, length, drop, replicate, Ok, Err, vec_items, Decides, Result, ◌==◌, bit_xor, slice_index}
 use Rattle.cell.specs.CheckOctet.{syndrome}
 use Rattle.cell.specs.Verdict.{agreeing}

@@ -5,12 +5,12 @@ pub loop-i-preserved : goal.loop-i-preserved
 loop-i-preserved c =
     let here : vec_len c.loop-i.octets ≡ c.loop-i.i = c.loop-i.invariant.0 in
     let last : get_or (vec_items c.push.new.self) (vec_len c.loop-i.octets) 0 ≡ c.in-Some.x =
-    c.in-ok-push.ensures.places.1 0 refl in (
+    c.in_ok-push-in-Some.ensures.by_index.1 0 refl in (
       search rules,
       below_more _ _
           (λ k h.
           let low : k < vec_len c.loop-i.octets = omega (arith, here, h) in
-          c.loop-i.invariant.1 k h ∙ ap Some (sym (c.push.ensures.places.0 k 0 low)))
+          c.loop-i.invariant.1 k h ∙ ap Some (sym (c.push.ensures.by_index.0 k 0 low)))
           (sym c.in-Some.ensures
           ∙ ap Some (sym (ap (λ (n : ℕ). get_or (vec_items c.push.new.self) n 0) (sym here) ∙ last))),
     )

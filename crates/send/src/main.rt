@@ -12,6 +12,7 @@ use line::Line;
 use ports::source::CountedSource;
 use std::alloc::Global;
 use std::io::{BufWriter, Read, Write};
+use std::process::ExitCode;
 use std::{env, io};
 
 mod arguments;
@@ -35,11 +36,11 @@ const USAGE: &str =
   --header N   their whole header, in place of path and channel; not that of idle cells (1) or F3 cells (9)
 A number is decimal, or hexadecimal behind 0x.";
 
-fn main(rt: HostRuntime) -> anyhow::Result<()> {
+fn main(rt: HostRuntime) -> anyhow::Result<ExitCode> {
     run(&rt)
 }
 
-fn run(rt: &HostRuntime) -> anyhow::Result<()> {
+fn run(rt: &HostRuntime) -> anyhow::Result<ExitCode> {
     let words = words(rt)?;
     let arguments = match Arguments::parse(&words) {
         Ok(arguments) => arguments,
@@ -53,7 +54,7 @@ fn run(rt: &HostRuntime) -> anyhow::Result<()> {
     let phase = line.phase();
     let tally = line.tally();
     eprintln!(rt; "{tally}; phase at the end 0x{phase:08X}")?;
-    Ok(())
+    Ok(ExitCode::SUCCESS)
 }
 
 // The arguments without the program's name.
@@ -62,15 +63,17 @@ fn words(rt: &HostRuntime) -> io::Result<Vec<String>> {
     Ok(words)
 }
 
-// Says which word is refused, and why.
-fn refuse(rt: &HostRuntime, words: &[String], fault: Fault) -> anyhow::Result<()> {
+// Says which word is refused, and why. It prints the word itself, since an error that `main` returns would hold only the first of a
+// long one.
+fn refuse(rt: &HostRuntime, words: &[String], fault: Fault) -> anyhow::Result<ExitCode> {
     rt.eprintln(USAGE)?;
     let why = fault.why;
     let word = match words.get(fault.at) {
         Some(word) => word.as_str(),
         None => "",
     };
-    Err(anyhow!(format!(in rt.alloc(); "{why}: {word}")?))
+    eprintln!(rt; "Error: {why}: {word}")?;
+    Ok(ExitCode::FAILURE)
 }
 
 // Sends the lead, the block from standard input, and the trail.

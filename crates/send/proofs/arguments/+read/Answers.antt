@@ -14,19 +14,19 @@ returns-in-len1 t c =
     let words = c.args.words.now in
     let some : 1 ≤ length words = search rules in
     let few : length words < 2 = search rules in
-    read_one _ _ _ words c.name-item.result _ some few c.name-item.is (c.lacking.ensures ∙ ap alone c.as-str.ensures.value)
+    read_one _ _ _ words c.name-item.result _ some few c.name-item.is (c.lacking.ensures ∙ ap alone c.as_str.ensures.value)
 
 pub returns-in-Ok : goal.returns-in-Ok
 returns-in-Ok t c =
     let words = c.args.words.now in
     let some : 2 ≤ length words = search rules in
     c.read.ensures
-    ∙ read_on string_bytes c.args.given c.args.at words c.name-item-2.result c.value-item.result c.as-str-in-len2-up.result.now c.as-bytes.result.now c.in-Ok.given
-    some c.name-item-2.is c.value-item.is c.as-str-in-len2-up.ensures.value c.as-bytes.ensures.value c.in-Ok.ensures
+    ∙ read_on string_bytes c.args.given c.args.at words c.name-item-2.result c.value-item.result c.as_str-in-len2-up.result.now c.as_bytes.result.now c.in-Ok.given
+    some c.name-item-2.is c.value-item.is c.as_str-in-len2-up.ensures.value c.as_bytes.ensures.value c.in-Ok.ensures
 
 pub returns-in-Err : goal.returns-in-Err
 returns-in-Err t c =
     let words = c.args.words.now in
     let some : 2 ≤ length words = search rules in
-    read_fault string_bytes c.args.given c.args.at words c.name-item-2.result c.value-item.result c.as-str-in-len2-up.result.now c.as-bytes.result.now c.in-Err.why
-    some c.name-item-2.is c.value-item.is c.as-str-in-len2-up.ensures.value c.as-bytes.ensures.value c.in-Err.ensures
+    read_fault string_bytes c.args.given c.args.at words c.name-item-2.result c.value-item.result c.as_str-in-len2-up.result.now c.as_bytes.result.now c.in-Err.why
+    some c.name-item-2.is c.value-item.is c.as_str-in-len2-up.ensures.value c.as_bytes.ensures.value c.in-Err.ensures

@@ -3,9 +3,9 @@ use Rattle.std.proofs.lemmas.List.{take_rest}
 use Rattle.send.specs.Number.{value_of}
 use Rattle.send.proofs.number.read.Goals as goal
 
-pub returns-then-is-hexadecimal : goal.returns-then-is-hexadecimal
-returns-then-is-hexadecimal c =
+pub returns-then-is_hexadecimal : goal.returns-then-is_hexadecimal
+returns-then-is_hexadecimal c =
     let text = c.args.text.now in
-    c.value-of.ensures
+    c.value_of.ensures
     ∙ ap (value_of 16) (take_rest text 2)
-    ∙ ap (λ b. cond b (value_of 16 (drop 2 text)) (value_of 10 text)) c.if-is-hexadecimal.ensures
+    ∙ ap (λ b. cond b (value_of 16 (drop 2 text)) (value_of 10 text)) c.if-is_hexadecimal.ensures

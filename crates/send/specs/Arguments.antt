@@ -1,18 +1,18 @@
 -- What the words of the command line ask for, by the octets of each word.
 --
---   nothing             no argument is given
---   inRange v a z       the value v, from a to z
---   once_more b v        the value v of an argument that had the value b before, which is refused
---   field_given g b v    the same of a field of the header, where the header is not given as a whole
---   header_given g v     the header v as a whole, where no field of it is given
---   gave g n v          what is given after the argument n with value v, where g was given before
---   taken g name value  the same, by the words of name and value
---   alone name          why a name cannot stand without a value
---   header_of g          the header: by its fields VPI (0) and VCI (100), with the other fields 0
---   arguments_of g       what is asked for: phase 1 and a lead of 32 cells where they are not given
---   read_from g at words what is given after all words, of which the first is number `at`, or which argument is at fault, by the number
---                       of the word that names it, and why
---   parsed words        what the words ask for
+--   nothing               no argument is given
+--   in_range v a z        the value v, from a to z
+--   once_more b v         the value v of an argument that had the value b before, which is refused
+--   field_given g b v     the same of a field of the header, where the header is not given as a whole
+--   header_given g v      the header v as a whole, where no field of it is given
+--   gave g n v            what is given after the argument n with value v, where g was given before
+--   taken g name value    the same, by the words of name and value
+--   alone name            why a name cannot stand without a value
+--   header_of g           the header: by its fields VPI (0) and VCI (100), with the other fields 0
+--   arguments_of g        what is asked for: phase 1 and a lead of 32 cells where they are not given
+--   read_from g at words  what is given after all words, of which the first is number `at`, or which argument is at fault, by the number
+--                         of the word that names it, and why
+--   parsed words          what the words ask for
 use Rattle.std.specs.Prelude.{ℕ, ◌+◌, ◌-◌, ◌*◌, ◌^◌, cond, List, [], ◌∷◌, Some, None, Ok, Err, Option, Result, nat_lt}
 use Rattle.cell.specs.Header.{reserved}
 use Rattle.send.specs.Name.{name_of}

@@ -1,11 +1,11 @@
 -- Numbers as arguments spell them, by the octets of the text, read as ASCII.
 --
---   hexadecimal text      the text begins with 0x
---   digit_of c             the value of the digit c, 0 to 9, A to F or a to f, and 16 where c is none
---   pushed base n c       the number n with the digit c behind it: none where c is no digit of the base, or where it passes 2^32 - 1
---   value_from base n text the number n with all digits of the text behind it
---   value_of base text     the number that the digits of a text spell; an empty text spells none
---   number_of text         the number that a text spells
+--   hexadecimal text        the text begins with 0x
+--   digit_of c              the value of the digit c, 0 to 9, A to F or a to f, and 16 where c is none
+--   pushed base n c         the number n with the digit c behind it: none where c is no digit of the base, or where it passes 2^32 - 1
+--   value_from base n text  the number n with all digits of the text behind it
+--   value_of base text      the number that the digits of a text spell; an empty text spells none
+--   number_of text          the number that a text spells
 use Rattle.std.specs.Prelude.{ℕ, ◌+◌, ◌-◌, ◌*◌, ◌^◌, Bool, false, cond, List, [], ◌∷◌, length, drop, Some, None, Option, ◌==◌, nat_le, nat_lt, slice_index}
 
 abbrev pub hexadecimal : List ℕ → Bool

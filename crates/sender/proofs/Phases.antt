@@ -1,5 +1,5 @@
 -- A phase that is not 0 is followed by one that is not 0.
-use Rattle.std.proofs.Common.{◌≡◌, ℕ, zero, suc, ◌+◌, ◌^◌, ◌<◌, sym, refl, ap, ◌∙◌, add-one, arith}
+use Rattle.std.proofs.Common.{◌≡◌, ℕ, zero, suc, ◌^◌, ◌<◌, sym, refl, ap, ◌∙◌, add-one, arith}
 use Rattle.scrambler.specs.Generator.{step, back, iterate, next_phase}
 use Rattle.scrambler.proofs.Steps.{back_step, step_lt, steps_lt, iterate_add}
 

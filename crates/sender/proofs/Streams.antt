@@ -1,11 +1,10 @@
 -- The laws of sent streams.
-use Rattle.std.proofs.Common.{◌≡◌, ℕ, zero, suc, ◌+◌, ◌*◌, ◌%◌, ◌^◌, ◌<◌, Bool, true, false, cond, T, eqb, List, [], ◌∷◌, ◌++◌, length, get_or, drop, sym, refl, ap, ◌∙◌, subst, ap₂, add-zero, mod-lt, mod-eq_of_lt, zero-add, arith, lit<, eqb→eq}
+use Rattle.std.proofs.Common.{◌≡◌, ℕ, suc, ◌+◌, ◌*◌, ◌%◌, ◌^◌, ◌<◌, Bool, true, false, cond, T, eqb, List, [], ◌∷◌, ◌++◌, length, sym, refl, ap, ◌∙◌, subst, ap₂, add-zero, mod-lt, mod-eq_of_lt, zero-add, arith, lit<, eqb→eq}
 use native.Mathlib.Nat.{mod-add-mod}
-use lib.Dec.{eqb_refl}
 use Rattle.std.specs.List.{AllByRecursion as All}
 use Rattle.cell.specs.Sorting.{header_of}
 use Rattle.cell.specs.declared.header.Kind.{Kind}
-use Rattle.cell.specs.declared.header.Kind.TheVariants.{Idle, F3, User}
+use Rattle.cell.specs.declared.header.Kind.TheVariants.{F3}
 use Rattle.cell.specs.declared.line_header.LineHeader.{LineHeader}
 use Rattle.ports.specs.Cell as cells
 use Rattle.ports.specs.Cell.{Cell, octets}
@@ -14,8 +13,8 @@ use Rattle.scrambler.specs.Coding.{coded, coded_header, CarriesSamples}
 use Rattle.scrambler.specs.Generator.{step, iterate}
 use Rattle.scrambler.proofs.Codes.{coded_header_on, carries_samples}
 use Rattle.scrambler.proofs.Steps.{iterate_add}
-use Rattle.sender.specs.Sender.{SenderState, Sends, kind_sent, cell_sent, left_waiting, waiting_kind, waiting_cell, rest, advanced, idle_cell, f3_cell}
-use Rattle.sender.specs.Stream.{Send, Sent, Run, none, more, SentStream, lost_to, lost, header_on, CellLaws, StreamLaws}
+use Rattle.sender.specs.Sender.{SenderState, waiting_kind, waiting_cell, rest, advanced, f3_cell}
+use Rattle.sender.specs.Stream.{Send, Sent, Run, none, more, lost_to, header_on, CellLaws, StreamLaws}
 
 pub runs_joined : (s t u : SenderState) (xs ys : List Send) → Run s xs t → Run t ys u → Run s (xs ++ ys) u
 runs_joined s t u [] ys none r = r

@@ -1,15 +1,15 @@
 -- A sent stream: what one sender's accepted sends write from one accepted start to any next one. Making a sender counts as a start
 -- at phase 1. Another source may be lent to each send.
 --
---   Send            one accepted send: the cells that waited in the source lent to it, the cell that went out, its kind, the 53
---                   octets that were written, and the cells that wait after it
---   Sent s x s'     the sender s becomes s' by the send x
---   Run s xs s'     the sender s becomes s' by the sends xs, one after the other
---   SentStream p xs the sends xs are a stream, started at phase p
---   lost x          the user cell that the source's list lost to the send x, if it lost one (lost_to: by its kind)
+--   Send             one accepted send: the cells that waited in the source lent to it, the cell that went out, its kind, the 53
+--                    octets that were written, and the cells that wait after it
+--   Sent s x s'      the sender s becomes s' by the send x
+--   Run s xs s'      the sender s becomes s' by the sends xs, one after the other
+--   SentStream p xs  the sends xs are a stream, started at phase p
+--   lost x           the user cell that the source's list lost to the send x, if it lost one (lost_to: by its kind)
 --   sent_users xs    the sent user cells of a stream: what the sources' lists lost to it, in order
 --   header_on line   the header on the line in the first five of its octets
---   StreamLaws      what holds of every sent stream and of each of its cells
+--   StreamLaws       what holds of every sent stream and of each of its cells
 use Rattle.std.specs.Prelude.{◌≡◌, ℕ, ◌*◌, ◌%◌, ◌^◌, ◌<◌, List, [], ◌∷◌, ◌++◌, length, slice_index}
 use Rattle.std.specs.List.{AllByRecursion as All}
 use Rattle.cell.specs.Sorting.{header_of}

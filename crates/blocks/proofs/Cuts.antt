@@ -3,7 +3,6 @@ use Rattle.std.proofs.Common.{◌≡◌, ℕ, suc, ◌+◌, ◌-◌, ◌<◌, �
 use Rattle.ring.proofs.Cut.{take_min}
 use Rattle.std.proofs.lemmas.List.FromFn.{length-map-range_with_len}
 use Rattle.cell.specs.Header.{reserved}
-use Rattle.ports.specs.Cell.{Cell}
 use Rattle.blocks.specs.Block.{payload_at, payload_count, cells_from, cells_of}
 use Rattle.blocks.specs.BlockSource.{block_cells, source_of, Passed}
 use Rattle.blocks.specs.declared.block_source.BlockSource.{BlockSource}

@@ -10,7 +10,7 @@ use Rattle.cell.specs.Header.{connection_of, reserved}
 use Rattle.ports.specs.Cell.{Cell}
 use Rattle.ports.specs.Sink.{Put}
 use Rattle.blocks.specs.Block.{place_at, cells_in}
-use Rattle.blocks.specs.BlockSink.{sink_state, block_state, Filled}
+use Rattle.blocks.specs.BlockSink.{block_state, Filled}
 use Rattle.blocks.specs.declared.block_sink.BlockSink.{BlockSink}
 
 module _ (block payload : List ℕ) (f : ℕ) (room : 48 * f + 48 ≤ length block) (whole : length payload ≡ 48) where

@@ -8,7 +8,8 @@
 --   Stores b payload r b'           what a put does to the octets of the block
 use Rattle.std.specs.Prelude.{◌≡◌, ℕ, ◌+◌, ◌-◌, ◌*◌, ◌/◌, ◌^◌, ◌<◌, Bool, true, false, cond, List, [], length, Result, MatchResult, ◌==◌}
 use Rattle.std.proofs.Math.Seq.{paste}
-use Rattle.std.proofs.Common.{arith}
+use Rattle.std.proofs.Common.{lit<}
+use Rattle.std.proofs.Math.Nat.{sub-le, div-le_self, le_trans, lt_of_le_of_lt}
 use Rattle.cell.specs.Header.{connection_of, reserved}
 use Rattle.cell.specs.declared.refusal.Refusal.{Refusal}
 use Rattle.ports.specs.Sink.{SinkState}
@@ -29,8 +30,8 @@ pub block_bounded : (b : BlockSink) (k : ℕ) → (block_state b).space k < 2 ^ 
 block_bounded b k = go (k == connection_of b.header.0)
   where
     go : (t : Bool) → cond t (length b.block.now / 48 - b.filled) 0 < 2 ^ 31
-    go true = omega arith
-    go false = omega arith
+    go true = lt_of_le_of_lt (sub-le (length b.block.now / 48) b.filled) (lt_of_le_of_lt (le_trans (div-le_self (length b.block.now) 48) b.small) (lit< tt))
+    go false = lit< tt
 
 pub record Filled (b : BlockSink) (payload : List ℕ) (b' : BlockSink) : Type 0 where
   pub header : b'.header.0 ≡ b.header.0

@@ -27,7 +27,8 @@ impl<'a> BlockSink<'a> {
 
     // Writes a payload into the first place that is not filled.
     fn store(&mut self, payload: &[u8])
-        requires { (length payload.now ≡ 48) × (self.old.filled < length self.old.block.now / 48) }
+        requires whole { length payload.now ≡ 48 }
+        requires room { self.old.filled < length self.old.block.now / 48 }
         ensures { Filled self.old payload.now self.new }
     {
         let at = PAYLOAD_OCTETS * self.filled;
@@ -39,9 +40,9 @@ impl<'a> BlockSink<'a> {
 }
 
 impl Sink for BlockSink<'_> {
-    ghost state = { blockState };
+    ghost state = { block_state };
 
-    ghost bounded = { blockBounded };
+    ghost bounded = { block_bounded };
 
     fn put(&mut self, header: Header, payload: &[u8]) -> Result<(), Refusal>
         ensures answer { PutAnswer (block_state self.old) header.0 payload.now result (block_state self.new) }

@@ -45,9 +45,9 @@ impl<'a> BlockSource<'a> {
 }
 
 impl Source for BlockSource<'_> {
-    ghost waiting = { blockCells };
+    ghost waiting = { block_cells };
 
-    ghost users = { blockUsers };
+    ghost users = { block_users };
 
     fn look(&self, place: &mut [u8]) -> Result<(), Refusal> {
         if place.len() != CELL_OCTETS {

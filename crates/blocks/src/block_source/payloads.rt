@@ -31,7 +31,8 @@ pub(super) fn payload_count(octets: usize) -> usize
 
 // Writes the header and payload number i of the block.
 pub(super) fn write_cell(header: Header, block: &[u8], i: usize, place: &mut [u8])
-    requires { (length place.old ≡ 52) × (i ≤ 1366) }
+    requires whole { length place.old ≡ 52 }
+    requires few { i ≤ 1366 }
     ensures { place.new ≡ header_octets header.0 ++ payload_at block.now i }
 {
     place[0..HEADER_OCTETS].copy_from_slice(&header.0.to_be_bytes());
@@ -39,7 +40,8 @@ pub(super) fn write_cell(header: Header, block: &[u8], i: usize, place: &mut [u8
 }
 
 fn write_payload(block: &[u8], i: usize, out: &mut [u8])
-    requires { (length out.old ≡ 48) × (i ≤ 1366) }
+    requires whole { length out.old ≡ 48 }
+    requires few { i ≤ 1366 }
     ensures { out.new ≡ payload_at block.now i }
 {
     for k in 0..PAYLOAD_OCTETS {

@@ -7,7 +7,7 @@ use Rattle.blocks.proofs.block_source.payloads.write_payload.Goals as goal
 pub loop-k-preserved : goal.loop-k-preserved
 loop-k-preserved c =
     let f : ℕ → ℕ = λ k. get_or c.args.block.now (48 * c.args.i + k) 0 in
-    rw c.octet_at_lem.ensures (fill_by_more f c.loop-k.out c.loop-k.k 0 (omega arith) c.loop-k.invariant)
+    rw c.octet_at.ensures (fill_by_more f c.loop-k.out c.loop-k.k 0 (omega arith) c.loop-k.invariant)
 
 pub returns : goal.returns
 unfolding payload_at

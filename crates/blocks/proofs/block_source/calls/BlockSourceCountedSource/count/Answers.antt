@@ -1,4 +1,4 @@
-use Rattle.std.proofs.Common.{sym, ◌∙◌, arith}
+use Rattle.std.proofs.Common.{arith}
 use Rattle.blocks.specs.Block.{payload_count}
 use Rattle.blocks.proofs.Cuts.{length_cells}
 use Rattle.blocks.proofs.block_source.calls.BlockSourceCountedSource.count.Goals as goal

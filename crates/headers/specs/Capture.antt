@@ -1,14 +1,14 @@
 -- A line of a capture, without its line end, as the list of its octets, read as ASCII, and what it spells.
 --
---   character_of c      what the octet c is: a blank, a hexadecimal digit of some value, or neither
---   Spells line os     line is the octets os, two digits each, with blanks between, before or after them, and nothing else
---   of_octets a b c d e the header of the octets a to d, with e received in the place of its check octet
---   Reads line r       r is what line is
---   FiveOctets line h  line spells five octets, and h is their header
---   Faulty line f      f is why line is no header
---   Cut line f         after a front that spells octets there comes no octet; f says in which column, counted from 1, and why
---   Stops n rest f     the same of rest, before which n characters stand
---   NoHeader line      line spells neither five octets nor none
+--   character_of c       what the octet c is: a blank, a hexadecimal digit of some value, or neither
+--   Spells line os       line is the octets os, two digits each, with blanks between, before or after them, and nothing else
+--   of_octets a b c d e  the header of the octets a to d, with e received in the place of its check octet
+--   Reads line r         r is what line is
+--   FiveOctets line h    line spells five octets, and h is their header
+--   Faulty line f        f is why line is no header
+--   Cut line f           after a front that spells octets there comes no octet; f says in which column, counted from 1, and why
+--   Stops n rest f       the same of rest, before which n characters stand
+--   NoHeader line        line spells neither five octets nor none
 use Rattle.std.specs.Prelude.{◌≡◌, ℕ, ◌+◌, ◌-◌, ◌*◌, ◌^◌, ◌<◌, cond, List, [], ◌∷◌, ◌++◌, length, ◌==◌, ◌≢◌, nat_le}
 use Rattle.cell.specs.declared.line_header.LineHeader.{LineHeader}
 use Rattle.headers.specs.declared.capture.CaptureLine.{CaptureLine}

@@ -7,5 +7,5 @@ returns c =
       cut = c.body.ensures;
       reading = c.read.result;
       reads = c.read.ensures.reads;
-      said = c.said-of.ensures;
+      said = c.said_of.ensures;
     }

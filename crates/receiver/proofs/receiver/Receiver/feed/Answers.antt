@@ -7,10 +7,10 @@ loop-octet-init g c = (works_none _ _ _, omega arith)
 
 pub loop-octet-preserved : goal.loop-octet-preserved
 loop-octet-preserved g c =
-    (rw (bits_more c.args.octets.now c.loop-octet.octet-index c.loop-octet-test.true) (works_then c.loop-octet.invariant.0 c.take-octet-taken.ensures.works), omega arith)
+    (rw (bits_more c.args.octets.now c.loop-octet.octet-index c.loop-octet-test.true) (works_then c.loop-octet.invariant.0 c.take_octet-taken.ensures.works), omega arith)
 
 pub returns : goal.returns
 returns g c = record {
   untouched = tt;
-  answer = feeds c.args.octets.now c.loop-octet.octet-index _ _ _ _ _ _ _ c.if-octets-eq0.false c.if-octets-gt-MOST-OCTETS.false c.loop-octet-test.false c.loop-octet.invariant.0;
+  answer = feeds c.args.octets.now c.loop-octet.octet-index _ _ _ _ _ _ _ c.if-octets-eq0.false c.if-octets-gt-MOST_OCTETS.false c.loop-octet-test.false c.loop-octet.invariant.0;
 }

@@ -10,7 +10,7 @@ loop-k-init g c = (works_none _ _ _, omega arith)
 
 pub loop-k-preserved : goal.loop-k-preserved
 loop-k-preserved g c =
-    (rw (map-range_with_len_more (bit_at c.args.octet) 0 c.loop-k.k c.loop-k.k (omega arith)) (works_then c.loop-k.invariant.0 (works_same (ap (λ (b : Bool). b ∷ []) c.bit-at.ensures) c.take-bit-taken.ensures.works)), omega arith)
+    (rw (map-range_with_len_more (bit_at c.args.octet) 0 c.loop-k.k c.loop-k.k (omega arith)) (works_then c.loop-k.invariant.0 (works_same (ap (λ (b : Bool). b ∷ []) c.bit_at.ensures) c.take_bit-taken.ensures.works)), omega arith)
 
 pub returns : goal.returns
 returns g c =

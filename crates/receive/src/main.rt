@@ -135,7 +135,7 @@ fn feed(
     ensures { (n : ℕ) × Fed octets.now n line.old cells.old events.old line.new cells.new events.new }
 {
     let Ok(_) = line.feed(octets, cells, events) else {
-        unreachable()
+        unreachable!()
     };
 }
 

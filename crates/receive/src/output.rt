@@ -49,7 +49,7 @@ fn octets_of(cell: UserCell) -> [u8; CELL_OCTETS]
 {
     let mut place = [0; CELL_OCTETS];
     let Ok(()) = cell.write(&mut place) else {
-        unreachable()
+        unreachable!()
     };
     place
 }

@@ -1,5 +1,5 @@
 -- The bits of an octet, one after the other.
-use Rattle.std.proofs.Common.{◌≡◌, ℕ, List, map, refl, ap, ◌∙◌, div-one}
+use Rattle.std.proofs.Common.{◌≡◌, ℕ, map, refl, ap, ◌∙◌, div-one}
 use Rattle.std.specs.List.{range_with_len}
 use Rattle.receiver.specs.Run.{bit_at, octet_bits}
 

@@ -1,5 +1,5 @@
 -- Events that find a free place in the ring, and events that do not.
-use Rattle.std.proofs.Common.{◌≡◌, ℕ, ◌<◌, Bool, true, false, cond, ltb, List, [], ◌∷◌, ◌++◌, length, sym, refl, ap, ◌∙◌, subst, ap₂, arith, le-ltb, lt-ltb}
+use Rattle.std.proofs.Common.{◌≡◌, ℕ, true, false, ltb, List, [], ◌∷◌, ◌++◌, length, ap, ◌∙◌, ap₂, arith, le-ltb, lt-ltb}
 use Rattle.cell.specs.declared.refusal.Refusal.{Refusal}
 use Rattle.cell.specs.declared.refusal.Refusal.TheVariants.{NoOctets, TooManyOctets, BadPhase, WrongLength, ReservedHeader, NotServed, NoSpace, NoneWaiting, BadSampleWord, NoOnePhase}
 use Rattle.ring.specs.declared.ring.Ring.{Ring}
@@ -7,7 +7,7 @@ use Rattle.ring.specs.Ring.{held, places, PushWhy, Pushed}
 use Rattle.receiver.specs.declared.book.Book.{Book}
 use Rattle.receiver.specs.declared.event.Event.{Event}
 use Rattle.receiver.specs.declared.event.EventRecord.{EventRecord}
-use Rattle.receiver.specs.Book.{Log, log_of, booked, lost, posted}
+use Rattle.receiver.specs.Book.{log_of, lost, posted}
 use Rattle.receiver.specs.Event.{record_of}
 
 module _ (k : Book) (e : Event) (ring ring' : Ring EventRecord) where

@@ -13,7 +13,7 @@ use Rattle.receiver.specs.declared.reply.Reply.{Reply}
 use Rattle.receiver.specs.Book.{Log, log_of, bit_counted, brought, noted, log_run}
 use Rattle.receiver.specs.Feed.{Events, events_of, log, Works, Feeds, FeedLaws}
 use Rattle.receiver.specs.Handing.{Moment, bits, Handed, Along, taken, taken_in}
-use Rattle.receiver.specs.Run.{octet_bits, bits_of, step, after, cell_in, user_cell, offered, kept_cell}
+use Rattle.receiver.specs.Run.{octet_bits, bits_of, step, after, cell_in, user_cell, kept_cell}
 
 -- ---- one bit
 

@@ -6,7 +6,7 @@
 --   Along s k ms k'  the moments ms, one after the other, from the tracker s on: each hands up the cell that its bit completes, and
 --                    takes over the sink as the one before left it
 --   taken_in ms      how many cells the sink took
-use Rattle.std.specs.Prelude.{◌≡◌, ℕ, ◌+◌, Bool, List, [], ◌∷◌, map, Some, None, Option}
+use Rattle.std.specs.Prelude.{◌≡◌, ℕ, ◌+◌, Bool, List, [], ◌∷◌, Some, None, Option}
 use Rattle.cell.specs.declared.refusal.Refusal.TheVariants as refusal
 use Rattle.ports.specs.Cell.{Cell}
 use Rattle.ports.specs.Sink.{SinkState, Put, PutWhy}

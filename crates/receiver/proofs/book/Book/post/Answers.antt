@@ -1,4 +1,3 @@
-use Rattle.std.proofs.Common.{rules}
 use Rattle.receiver.proofs.Posting.{posted_free, posted-lost}
 use Rattle.receiver.proofs.book.Book.post.Goals as goal
 

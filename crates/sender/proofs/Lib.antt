@@ -1,2 +1,3 @@
+pub mod Octets
 pub mod Phases
 pub mod Streams

@@ -1,4 +1,4 @@
--- A phase that is not 0 is followed by one that is not 0.
+-- A phase that is not 0 is followed by phases that are not 0.
 use Rattle.std.proofs.Common.{◌≡◌, ℕ, zero, suc, ◌^◌, ◌<◌, sym, refl, ap, ◌∙◌, add-one, arith}
 use Rattle.scrambler.specs.Generator.{step, back, iterate, next_phase}
 use Rattle.scrambler.proofs.Steps.{back_step, step_lt, steps_lt, iterate_add}
@@ -19,8 +19,11 @@ not_zero : (n : ℕ) → (n ≡ 0 → ⊥) → 0 < n
 not_zero zero h = absurd (h refl)
 not_zero (suc n) h = omega arith
 
-pub next_running : (p : ℕ) → 0 < p → p < 2 ^ 31 → (0 < next_phase p) × (next_phase p < 2 ^ 31)
-next_running p h b = (
-  not_zero (next_phase p) (λ e. let z : p ≡ 0 = sym (backs_steps 424 p b) ∙ ap (iterate 424 back) e ∙ backs_zero 424 in omega arith),
-  steps_lt 424 p b,
+pub steps_running : (n p : ℕ) → 0 < p → p < 2 ^ 31 → (0 < iterate n step p) × (iterate n step p < 2 ^ 31)
+steps_running n p h b = (
+  not_zero (iterate n step p) (λ e. let z : p ≡ 0 = sym (backs_steps n p b) ∙ ap (iterate n back) e ∙ backs_zero n in omega arith),
+  steps_lt n p b,
 )
+
+pub next_running : (p : ℕ) → 0 < p → p < 2 ^ 31 → (0 < next_phase p) × (next_phase p < 2 ^ 31)
+next_running p h b = steps_running 424 p h b

@@ -1,2 +1,3 @@
 pub mod Sender
 pub mod Stream
+pub mod Told

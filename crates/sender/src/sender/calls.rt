@@ -1,8 +1,9 @@
 // Starting, and sending a cell.
-ghost use Rattle.std.specs.Prelude.{◌≡◌, ◌++◌, length};
+ghost use Rattle.std.specs.Prelude.{◌≡◌, ◌++◌, length, drop};
 ghost use Rattle.ports.specs.Cell.{header_octets, octets};
 ghost use Rattle.scrambler.specs.Coding.{coded};
 ghost use Rattle.sender.specs.Sender.{state_of, fresh, cell_sent, kind_sent, left_waiting, advanced, StartAnswer, SendAnswer};
+ghost use Rattle.sender.specs.Told.{Octets, KindWhy, SendTells, NotAsked, SourceAnswer, F3Answer};
 
 use super::Sender;
 use cell::header::{Header, Kind};
@@ -42,10 +43,23 @@ impl Sender {
         Ok(())
     }
 
+    // Sets the payload of the F3 cells that go out from now on. Refuses a payload not of 48 octets.
+    pub fn set_f3(&mut self, payload: &[u8]) -> Result<(), Refusal>
+        ensures { F3Answer (state_of self.old) payload.now result (state_of self.new) }
+    {
+        if payload.len() != PAYLOAD_OCTETS {
+            return Err(Refusal::WrongLength);
+        }
+        copy_payload(&mut self.f3, payload);
+        Ok(())
+    }
+
     // Writes the 53 octets of the next cell, and answers its kind: every 432nd is an F3 cell; any other is the user cell that waits
     // first in the source, which is then taken from it, or an idle cell where none waits. Refuses a place not of 53 octets.
     pub fn send<S: Source>(&mut self, source: &mut S, place: &mut [u8]) -> Result<Kind, Refusal>
-        ensures { SendAnswer (state_of self.old) (S.Source.waiting source.old) place.old result (state_of self.new) (S.Source.waiting source.new) place.new }
+        ensures answer { SendAnswer (state_of self.old) (S.Source.waiting source.old) place.old result (state_of self.new) (S.Source.waiting source.new) place.new }
+        ensures told { SendTells (state_of self.old) (S.Source.waiting source.old) result }
+        ensures source { SourceAnswer result source.old source.new }
     {
         if place.len() != LINE_OCTETS {
             return Err(Refusal::WrongLength);
@@ -61,8 +75,10 @@ impl Sender {
     fn choose<S: Source>(&self, source: &mut S, cell: &mut [u8]) -> Kind
         requires { length cell.old ≡ 52 }
         ensures sort { result ≡ kind_sent (state_of self.now) (S.Source.waiting source.old) }
+        ensures why { KindWhy (state_of self.now) (S.Source.waiting source.old) result }
         ensures written { cell.new ≡ octets (cell_sent (state_of self.now) (S.Source.waiting source.old)) }
         ensures left { S.Source.waiting source.new ≡ left_waiting (state_of self.now) (S.Source.waiting source.old) }
+        ensures source { NotAsked result source.old source.new }
     {
         if self.number == 0 {
             write_cell(cell, Header::F3, &self.f3);
@@ -77,11 +93,12 @@ impl Sender {
         }
     }
 
-    // Codes a cell at the sender's phase.
+    // Codes a cell at the sender's phase. Its payload is of octets, since a slice of them holds it.
     fn code(&self, cell: &[u8], place: &mut [u8])
         requires cell { length cell.now ≡ 52 }
         requires place { length place.old ≡ 53 }
-        ensures { place.new ≡ coded self.now.phase cell.now }
+        ensures written { place.new ≡ coded self.now.phase cell.now }
+        ensures payload { Octets 48 (drop 4 cell.now) }
     {
         let _ = code_cell(cell, self.phase, place);
     }
@@ -93,6 +110,16 @@ impl Sender {
         self.phase = next_phase(self.phase);
         self.number = (self.number + 1) % F3_PERIOD;
     }
+}
+
+// Copies a payload, which is of octets since a slice of them holds it.
+fn copy_payload(place: &mut [u8], payload: &[u8])
+    requires place { length place.old ≡ 48 }
+    requires payload { length payload.now ≡ 48 }
+    ensures octets { Octets 48 payload.now }
+    ensures copied { place.new ≡ payload.now }
+{
+    place.copy_from_slice(payload);
 }
 
 // Writes the 52 octets of a cell.

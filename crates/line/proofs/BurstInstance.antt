@@ -4,9 +4,10 @@ use Rattle.std.specs.List.{AllByRecursion as All}
 use Rattle.cell.specs.declared.header.Kind.TheVariants.{User}
 use Rattle.ports.specs.Cell.{Cell, of_connection}
 use Rattle.ports.specs.Sink.{SinkState}
-use Rattle.sender.specs.Sender.{SenderState, Octets, fresh, advanced}
-use Rattle.sender.specs.Stream.{Send, SentStream, line_of, lost}
-use Rattle.sender.proofs.Streams.{stream_laws}
+use Rattle.sender.specs.Sender.{SenderState, fresh, advanced}
+use Rattle.sender.specs.Told.{Octets}
+use Rattle.line.specs.Stream.{Send, SentStream, line_of, lost}
+use Rattle.line.proofs.StreamLaws.{stream_laws}
 use Rattle.tracker.specs.declared.tracker.Tracker.{Tracker}
 use Rattle.tracker.specs.Tracker.{start}
 use Rattle.receiver.specs.Handing.{Moment, bits}

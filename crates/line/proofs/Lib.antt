@@ -13,6 +13,7 @@ pub mod Frames
 pub mod LawB
 pub mod RightHeader
 pub mod Histories
+pub mod StreamLaws
 pub mod Streams
 pub mod Survives
 pub mod LawC

@@ -1,3 +1,4 @@
+pub mod Stream
 pub mod Heard
 pub mod Headers
 pub mod Laws

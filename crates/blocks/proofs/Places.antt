@@ -30,9 +30,9 @@ module _ (block payload : List ℕ) (f : ℕ) (room : 48 * f + 48 ≤ length blo
       ∙ ap (drop (48 * i)) (take_below (48 * i + 48) (omega arith))
       ∙ drop-take (48 * i) 48 block
 
-  place_at_lem : place_at (paste block (48 * f) payload 48) f ≡ payload
+  place_stored : place_at (paste block (48 * f) payload 48) f ≡ payload
   unfolding place_at
-  place_at_lem =
+  place_stored =
       ap (λ xs. take 48 (drop (48 * f) xs)) (append_assoc (take (48 * f) block) (take 48 payload) (drop (48 * f + 48) block))
       ∙ ap (take 48) (drop_at (take (48 * f) block) (take 48 payload ++ drop (48 * f + 48) block) (48 * f) front)
       ∙ take_at (take 48 payload) (drop (48 * f + 48) block) 48 (length-take-le 48 payload (omega arith))
@@ -44,7 +44,7 @@ module _ (block payload : List ℕ) (f : ℕ) (room : 48 * f + 48 ≤ length blo
       let before : ℕ → Cell = λ k. record { header = header; payload = place_at block k } in
       let d : Cell = record { header = 0; payload = [] } in
       let same : map before (range_with_len 0 f) ≡ map after (range_with_len 0 f) = fill_by_all after (map before (range_with_len 0 f)) f d (length-map-range_with_len before 0 f) (λ k h. get_or-map-range_with_len before 0 f k k d h (omega arith) ∙ ap (λ p. record { header = header; payload = p }) (sym (place-below k h))) in
-      map-range_with_len_more after 0 f f (omega arith) ∙ rw (place_at_lem, same)
+      map-range_with_len_more after 0 f f (omega arith) ∙ rw (place_stored, same)
 
 fall : (b : Bool) (places filled : ℕ) → (cond b (places - (filled + 1)) 0 ≤ cond b (places - filled) 0) × (cond b (places - filled) 0 ≤ cond b (places - (filled + 1)) 0 + 1)
 fall true places filled = (omega arith, omega arith)

@@ -6,7 +6,7 @@
 --   closed_bounded k  its spaces are below 2^31
 use Rattle.std.specs.Prelude.{ℕ, ◌^◌, ◌<◌, false, List, [], ◌∷◌, Some, None, Option}
 use Rattle.std.proofs.Common.{lit<}
-use Rattle.std.specs.List.{AllByRecursion as All}
+use Rattle.std.specs.List.{AllByRecursion}
 use Rattle.ports.specs.Cell.{Cell, User}
 use Rattle.ports.specs.Sink.{SinkState}
 use Rattle.ports.specs.UserCell.{cell_of}
@@ -16,7 +16,7 @@ abbrev pub cell_in : Option UserCell → List Cell
 cell_in None = []
 cell_in (Some u) = cell_of u ∷ []
 
-pub users_in : (slot : Option UserCell) → All User (cell_in slot)
+pub users_in : (slot : Option UserCell) → AllByRecursion User (cell_in slot)
 users_in None = tt
 users_in (Some u) = (record { fits = u.fits; user = u.user; whole = u.whole }, tt)
 

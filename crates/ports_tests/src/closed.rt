@@ -12,7 +12,7 @@ pub struct Closed;
 impl Sink for Closed {
     ghost state = { λ _. closed };
 
-    ghost bounded = { λ _ k. closedBounded k };
+    ghost bounded = { λ _ k. closed_bounded k };
 
     fn put(&mut self, header: Header, payload: &[u8]) -> Result<(), Refusal> {
         if payload.len() != PAYLOAD_OCTETS {

@@ -13,9 +13,9 @@ pub struct OneCell {
 }
 
 impl Source for OneCell {
-    ghost waiting = { λ s. cellIn s.slot };
+    ghost waiting = { λ s. cell_in s.slot };
 
-    ghost users = { λ s. usersIn s.slot };
+    ghost users = { λ s. users_in s.slot };
 
     fn look(&self, place: &mut [u8]) -> Result<(), Refusal> {
         if place.len() != CELL_OCTETS {

@@ -1,7 +1,7 @@
 // Rings of events in 0, 1, 1,024 and 1,025 places.
+use crate::checks::check;
 use cell::refusal::Refusal;
 use ring::ring::Ring;
-use std::process::Abort;
 use std::test::Fail;
 
 // An event as plain numbers.
@@ -29,34 +29,34 @@ fn number<T: Drop>(answer: Result<T, Refusal>) -> u8 {
 }
 
 // Fills every place, finds the ring full, takes all out in order, finds it empty; three times, each time from one place further on.
-fn fills(rt: &impl Abort, slots: &mut [Event], places: u64) -> Result<(), Fail> {
+fn fills(slots: &mut [Event], places: u64) -> Result<(), Fail> {
     let mut ring = Ring::new(slots);
-    assert!(rt; ring.places() as u64 == places);
+    check(ring.places() as u64 == places)?;
     for _ in 0..3u8 {
         for bit in 0..places {
             ring.push(at_bit(bit))?;
         }
-        assert!(rt; number(ring.push(at_bit(0))) == 7);
-        assert!(rt; ring.len() as u64 == places);
+        check(number(ring.push(at_bit(0))) == 7)?;
+        check(ring.len() as u64 == places)?;
         for bit in 0..places {
-            assert!(rt; ring.front()?.bit == bit);
-            assert!(rt; ring.pop()?.bit == bit);
+            check(ring.front()?.bit == bit)?;
+            check(ring.pop()?.bit == bit)?;
         }
-        assert!(rt; number(ring.front()) == 8);
-        assert!(rt; number(ring.pop()) == 8);
-        assert!(rt; ring.len() == 0);
+        check(number(ring.front()) == 8)?;
+        check(number(ring.pop()) == 8)?;
+        check(ring.len() == 0)?;
         if places > 0 {
             ring.push(at_bit(9))?;
-            assert!(rt; ring.pop()?.bit == 9);
+            check(ring.pop()?.bit == 9)?;
         }
     }
     Ok(())
 }
 
 #[test]
-fn rings_of_each_size(rt: HostRuntime) -> Result<(), Fail> {
-    fills(&rt, &mut [at_bit(0); 0], 0)?;
-    fills(&rt, &mut [at_bit(0); 1], 1)?;
-    fills(&rt, &mut [at_bit(0); 1024], 1024)?;
-    fills(&rt, &mut [at_bit(0); 1025], 1024)
+fn rings_of_each_size() -> Result<(), Fail> {
+    fills(&mut [at_bit(0); 0], 0)?;
+    fills(&mut [at_bit(0); 1], 1)?;
+    fills(&mut [at_bit(0); 1024], 1024)?;
+    fills(&mut [at_bit(0); 1025], 1024)
 }

@@ -1,4 +1,5 @@
 // A block of 100,000 octets through block sources, a pair, a ring, a split and block sinks, and back.
+use crate::checks::check;
 use blocks::block_sink::BlockSink;
 use blocks::block_source::BlockSource;
 use cell::header::Header;
@@ -10,7 +11,7 @@ use ports::source::CountedSource;
 use ports::split::Split;
 use ports::user_cell::UserCell;
 use ring::ring::Ring;
-use std::process::Abort;
+use std::test::Fail;
 
 // VPI 0, VCI 5, and VPI 1, VCI 5.
 const LOW: Header = Header(0x0000_0050);
@@ -79,28 +80,28 @@ fn carry(low: &[u8], high: &[u8], left: &mut [u8], right: &mut [u8]) -> u32 {
 }
 
 // There: 65,520 octets are 1,365 payloads, and 34,480 are 718 and a part.
-fn there(rt: &impl Abort, block: &[u8], left: &mut [u8], right: &mut [u8]) {
-    assert!(rt; block.len() == 100_000);
-    assert!(rt; carry(&block[0..65_520], &block[65_520..100_000], left, right) == 2084);
+fn there(block: &[u8], left: &mut [u8], right: &mut [u8]) -> Result<(), Fail> {
+    check(block.len() == 100_000)?;
+    check(carry(&block[0..65_520], &block[65_520..100_000], left, right) == 2084)
 }
 
 // And back: the same octets again.
-fn back(rt: &impl Abort, left: &[u8], right: &[u8], low: &mut [u8], high: &mut [u8]) {
-    assert!(rt; carry(left, right, low, high) == 2084);
-    assert!(rt; agrees(low, left, 0));
-    assert!(rt; agrees(high, right, 0));
+fn back(left: &[u8], right: &[u8], low: &mut [u8], high: &mut [u8]) -> Result<(), Fail> {
+    check(carry(left, right, low, high) == 2084)?;
+    check(agrees(low, left, 0))?;
+    check(agrees(high, right, 0))
 }
 
 #[test]
-fn there_and_back(rt: HostRuntime) {
+fn there_and_back(rt: HostRuntime) -> Result<(), Fail> {
     let mut block = [0; 100_000];
     let mut left = [1; 65_520];
     let mut right = [1; 34_512];
     scatter(&mut block);
-    there(&rt, &block, &mut left, &mut right);
+    there(&block, &mut left, &mut right)?;
     assert!(rt; agrees(&left, &block, 0));
     assert!(rt; agrees(&right, &block, 65_520));
-    back(&rt, &left, &right, &mut [1; 65_520], &mut [1; 34_512]);
+    back(&left, &right, &mut [1; 65_520], &mut [1; 34_512])
 }
 
 fn counted(header: Header, block: &[u8]) -> u32 {

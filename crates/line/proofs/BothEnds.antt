@@ -1,5 +1,5 @@
 -- The theorem of the line, from the laws of what one receiving end hears. Knows of the book only what a mended header writes down.
-use Rattle.std.proofs.Common.{◌≡◌, ℕ, ◌<◌, ◌≤◌, Bool, true, false, cond, ltb, List, [], ◌∷◌, ◌++◌, length, sym, refl, ap, ◌∙◌, subst, le-ltb, lt-ltb}
+use Rattle.std.proofs.Common.{◌≡◌, Bool, true, false, ltb, List, [], ◌∷◌, ◌++◌, length, sym, refl, ap, ◌∙◌, subst, le-ltb, lt-ltb}
 use Rattle.sender.specs.Sender.{SenderState}
 use Rattle.tracker.specs.declared.tracker.Tracker.{Tracker}
 use Rattle.tracker.specs.declared.tracker.Moment.{Moment as Brought}
@@ -8,7 +8,7 @@ use Rattle.tracker.specs.Tracker.{start, bit_step, bit_brings}
 use Rattle.receiver.specs.declared.receiver.Receiver.{Receiver}
 use Rattle.receiver.specs.declared.reply.Reply.{Reply}
 use Rattle.receiver.specs.Book.{Log, bit_counted, booked, posted, brought, noted, log_run}
-use Rattle.receiver.specs.Feed.{Feeds, log}
+use Rattle.receiver.specs.Feed.{log}
 use Rattle.receiver.specs.Handing.{Moment, bits}
 use Rattle.receiver.specs.Run.{step, after}
 use Rattle.line.specs.Heard.{Heard}

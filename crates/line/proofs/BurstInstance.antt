@@ -1,20 +1,17 @@
 -- A burst of six damaged cells: forty cells of a new sender, in one feed to a new receiving end, every octet of six of them changed.
-use Rattle.std.proofs.Common.{◌≡◌, ℕ, zero, suc, ◌+◌, ◌*◌, ◌%◌, ◌^◌, ◌<◌, ◌≤◌, Bool, ◌⊎◌, List, [], ◌∷◌, ◌++◌, map, length, get_or, take, drop, sym, refl, ap, ◌∙◌, subst, inl, inr, append_assoc, append-nil, mod-lt, arith, lit<, length-append, take_at, drop_at}
+use Rattle.std.proofs.Common.{◌≡◌, ℕ, suc, ◌+◌, ◌*◌, ◌<◌, ◌≤◌, Bool, ◌⊎◌, List, [], ◌∷◌, ◌++◌, map, length, take, drop, sym, refl, ap, ◌∙◌, subst, inr, append_assoc, append-nil, arith, length-append, take_at, drop_at}
 use Rattle.std.specs.List.{AllByRecursion as All}
 use Rattle.cell.specs.declared.header.Kind.TheVariants.{User}
-use Rattle.ports.specs.Cell.{Cell, of_connection}
-use Rattle.ports.specs.Sink.{SinkState}
+use Rattle.ports.specs.Cell.{of_connection}
 use Rattle.sender.specs.Sender.{SenderState, fresh, advanced}
-use Rattle.sender.specs.Told.{Octets}
 use Rattle.line.specs.Stream.{Send, SentStream, line_of, lost}
-use Rattle.line.proofs.StreamLaws.{stream_laws}
 use Rattle.tracker.specs.declared.tracker.Tracker.{Tracker}
 use Rattle.tracker.specs.Tracker.{start}
 use Rattle.receiver.specs.Handing.{Moment, bits}
 use Rattle.receiver.specs.Run.{bits_of, after}
-use Rattle.line.specs.Heard.{Begins, join}
+use Rattle.line.specs.Heard.{join}
 use Rattle.line.specs.Instances.{BurstArrives}
-use Rattle.line.specs.Laws.{header_bits, payload_bits, complete, last_bit, InStep, Right, Follows, Undamaged}
+use Rattle.line.specs.Laws.{header_bits, payload_bits, complete, last_bit, Right, Follows, Undamaged}
 use Rattle.line.specs.Receiving.{heard}
 use Rattle.line.specs.Sending as sending
 use Rattle.line.specs.Sending.{History, sent}
@@ -28,7 +25,7 @@ use Rattle.line.proofs.LawsHold.{laws_hold}
 use Rattle.line.proofs.Locking.{between, between_bits, Locked, locked}
 use Rattle.line.proofs.Roomy.{wide, moments_over, sink_over, bits_over, over_append, RoomyAt, roomy_ready, FedNew, feed_new}
 use Rattle.line.proofs.Runs.{length-bits}
-use Rattle.line.proofs.SampleSends.{sample_cell, sample_connection, send_on, sends_on, sent_on, fresh-octets, grown}
+use Rattle.line.proofs.SampleSends.{sample_connection, send_on, sends_on, sent_on, fresh-octets, grown}
 use Rattle.line.proofs.Sends.{cell_bits, stream_carried, carried_at, header_long_lem, payload_long_lem}
 use Rattle.line.proofs.Streams.{streams-sent}
 

@@ -9,7 +9,6 @@ use lib.Bits.{bit_xor, xor_assoc, xor_comm, xor_zero_r, xor_lt, xor_block, xor_s
 use lib.Pow.{pow-lt, split}
 use Rattle.cell.specs.CheckOctet.{check_octet, syndrome}
 use Rattle.cell.specs.LineHeader.{bits40, turned, Codeword}
-use Rattle.cell.specs.Tests.{below}
 use Rattle.cell.specs.Verdict.{place, verdict_of}
 use Rattle.cell.specs.declared.line_header.LineHeader.{LineHeader}
 use Rattle.cell.specs.declared.verdict.Verdict.TheVariants.{OneWrongBit, PastMending}

@@ -1,6 +1,6 @@
 -- Histories of calls on a receiving end: where its tracker stands, and that every stretch is heard from its making or a reset on.
 -- Knows of a feed only that its moments are worked one after the other.
-use Rattle.std.proofs.Common.{◌≡◌, ℕ, Bool, List, [], ◌∷◌, ◌++◌, Ok, Err, Result, sym, refl, ap, ◌∙◌, subst}
+use Rattle.std.proofs.Common.{◌≡◌, ℕ, List, [], ◌∷◌, ◌++◌, Ok, Err, Result, sym, refl, ap, ◌∙◌, subst}
 use Rattle.std.specs.List.{AllByRecursion as All}
 use Rattle.cell.specs.declared.refusal.Refusal.{Refusal}
 use Rattle.tracker.specs.declared.tracker.Tracker.{Tracker}

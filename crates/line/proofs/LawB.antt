@@ -2,7 +2,7 @@
 -- Knows the code by the record CodeLaws only, and of sinks nothing but what a row of offers adds.
 --
 --   nine e  nine more than e
-use Rattle.std.proofs.Common.{◌≡◌, ℕ, zero, suc, ◌+◌, ◌-◌, ◌*◌, ◌%◌, ◌^◌, ◌<◌, true, false, cond, ltb, List, [], ◌∷◌, ◌++◌, map, length, take, drop, Some, None, Ok, Option, sym, refl, ap, ◌∙◌, subst, arith, length-append, le-ltb, lt-ltb}
+use Rattle.std.proofs.Common.{◌≡◌, ℕ, zero, suc, ◌+◌, ◌*◌, ◌%◌, ◌^◌, ◌<◌, true, false, cond, ltb, List, [], ◌∷◌, ◌++◌, map, length, take, drop, Some, None, Ok, Option, sym, refl, ap, ◌∙◌, subst, arith, length-append, le-ltb, lt-ltb}
 use Rattle.ports.specs.Cell.{Cell, of_connection}
 use Rattle.scrambler.specs.Finder.{found}
 use Rattle.scrambler.specs.Generator.{next_phase}
@@ -10,7 +10,7 @@ use Rattle.line.specs.Stream.{Send, line_of, sent_users}
 use Rattle.tracker.specs.declared.state.Mode.{Mode}
 use Rattle.tracker.specs.declared.state.Mode.TheVariants.{Correction}
 use Rattle.tracker.specs.declared.state.Delineation.TheVariants.{Presync}
-use Rattle.tracker.specs.declared.state.Descrambler.TheVariants.{Acquisition, Verification, Steady}
+use Rattle.tracker.specs.declared.state.Descrambler.TheVariants.{Acquisition, Verification}
 use Rattle.tracker.specs.declared.state.Place.TheVariants.{Payload}
 use Rattle.tracker.specs.declared.tracker.Tracker.{Tracker}
 use Rattle.tracker.specs.Window.{counted, shifted}

@@ -4,7 +4,7 @@
 --   between x ys  what comes after the header of x up to the end of the last header of ys
 --   Locked s q    after a header, in SYNC with no header wrong, and in Steady with confidence 24 and the phase q
 --   Caught x      the bits of the header of x, the last apart, and the state that they lead a new end to
-use Rattle.std.proofs.Common.{◌≡◌, ℕ, zero, suc, ◌+◌, ◌%◌, ◌^◌, ◌<◌, ◌≤◌, Bool, true, false, cond, eqb, ltb, List, [], ◌∷◌, ◌++◌, length, Some, None, Ok, Option, sym, refl, ap, ◌∙◌, subst, append_assoc, append-nil, arith, length-append, le-ltb, lt-ltb, eq-eqb, ne_eqb}
+use Rattle.std.proofs.Common.{◌≡◌, ℕ, zero, suc, ◌+◌, ◌%◌, ◌^◌, ◌<◌, ◌≤◌, Bool, true, false, cond, eqb, ltb, List, [], ◌∷◌, ◌++◌, length, None, Option, sym, refl, ap, ◌∙◌, subst, append_assoc, append-nil, arith, length-append, le-ltb, lt-ltb, ne_eqb}
 use Rattle.cell.specs.declared.header.Header as headers
 use Rattle.scrambler.specs.Finder.{found}
 use Rattle.scrambler.specs.Generator.{next_phase}
@@ -12,13 +12,13 @@ use Rattle.line.specs.Stream.{Send, line_of}
 use Rattle.tracker.specs.declared.state.Mode.{Mode}
 use Rattle.tracker.specs.declared.state.Mode.TheVariants.{Correction}
 use Rattle.tracker.specs.declared.state.Delineation.TheVariants.{Presync}
-use Rattle.tracker.specs.declared.state.Descrambler.TheVariants.{Acquisition, Verification}
+use Rattle.tracker.specs.declared.state.Descrambler.TheVariants.{Acquisition}
 use Rattle.tracker.specs.declared.state.Lock.{Lock}
 use Rattle.tracker.specs.declared.state.Place.TheVariants.{Hunt, Payload}
 use Rattle.tracker.specs.declared.state.Control.{Control}
 use Rattle.tracker.specs.declared.tracker.Tracker.{Tracker}
 use Rattle.tracker.specs.Window.{agrees, counted, shifted}
-use Rattle.tracker.specs.Rules.{both, found_phase, sampled, headed, locked_on}
+use Rattle.tracker.specs.Rules.{found_phase, sampled, headed, locked_on}
 use Rattle.tracker.specs.Tracker.{start, hunted, control_after}
 use Rattle.receiver.specs.Run.{bits_of, step, after}
 use Rattle.line.specs.Headers.{hunting}
@@ -28,9 +28,9 @@ use Rattle.line.proofs.Carried.{Carried, CarriedOn}
 use Rattle.line.proofs.Cells.{at, At, long_run, Cut, cut_bits, nil_of}
 use Rattle.line.proofs.CodeLaws.{CodeLaws, moved, trail}
 use Rattle.line.proofs.SentHeaders.{synced, steady, verifying, acquiring, bound_at, bound_next, verify_next, verify_last, acquire_next, sampled_trail, sampled_first, steady_sent}
-use Rattle.line.proofs.Offers.{Frame, whole_of}
+use Rattle.line.proofs.Offers.{whole_of}
 use Rattle.line.proofs.Runs.{after-append}
-use Rattle.line.proofs.Sends.{cell_bits, stream_bits, moved_next, header_long_lem, payload_long_lem, header_agrees, header_samples}
+use Rattle.line.proofs.Sends.{cell_bits, moved_next, header_long_lem, payload_long_lem, header_agrees, header_samples}
 
 abbrev pub between : Send → List Send → List Bool
 between x [] = []

@@ -1,6 +1,6 @@
 -- In step, one wrong header bit after a right header is mended, and the cell goes up if its payload comes as sent.
 -- Knows the code by the record CodeLaws only, and of sinks nothing but what an offer adds.
-use Rattle.std.proofs.Common.{◌≡◌, ℕ, ◌+◌, ◌-◌, ◌≤◌, Bool, false, List, [], ◌∷◌, ◌++◌, length, take, drop, Some, sym, refl, ap, ◌∙◌, subst, ap₂, append_assoc, append-nil, arith, length-append, take-append-drop, length-take, drop_at}
+use Rattle.std.proofs.Common.{◌≡◌, ℕ, ◌+◌, ◌≤◌, Bool, false, List, [], ◌∷◌, ◌++◌, length, take, drop, Some, sym, refl, ap, ◌∙◌, subst, ap₂, append_assoc, append-nil, arith, length-append, take-append-drop, length-take, drop_at}
 use Rattle.cell.specs.declared.header.Header as headers
 use Rattle.cell.specs.declared.header.Kind.TheVariants.{User}
 use Rattle.cell.specs.declared.verdict.Verdict.{Verdict}

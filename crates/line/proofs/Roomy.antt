@@ -6,7 +6,7 @@
 --   moments_over s k bs  the moments of the bits bs, from the tracker s and the sink k on
 --   sink_over s k bs     the sink after them
 --   Roomy n k            the sink k serves every header and has space for n cells or more of each connection
-use Rattle.std.proofs.Common.{◌≡◌, ℕ, zero, suc, ◌+◌, ◌-◌, ◌^◌, ◌<◌, ◌≤◌, Bool, true, false, cond, eqb, List, [], ◌∷◌, ◌++◌, length, Some, None, Ok, Option, sym, refl, ap, ◌∙◌, subst, append-nil, arith, eq-eqb, ne_eqb}
+use Rattle.std.proofs.Common.{◌≡◌, ℕ, suc, ◌-◌, ◌^◌, ◌<◌, ◌≤◌, Bool, true, false, cond, List, [], ◌∷◌, ◌++◌, length, Some, None, Ok, Option, sym, refl, ap, ◌∙◌, subst, append-nil, arith, eq-eqb, ne_eqb}
 use Rattle.std.specs.List.{AllByRecursion as All}
 use Rattle.cell.specs.Header.{connection_of, kind_of, reserved}
 use Rattle.cell.specs.declared.header.Kind.{Kind}

@@ -5,10 +5,9 @@
 --   sends_on n s  n of these sends in a row
 --   sent_on n s   the sender after them
 --   Grown n h     the history h with n such sends more
-use Rattle.std.proofs.Common.{◌≡◌, ℕ, zero, suc, ◌+◌, ◌^◌, ◌<◌, Bool, true, false, cond, eqb, List, [], ◌∷◌, ◌++◌, length, replicate, Ok, sym, refl, ap, ◌∙◌, append_assoc, append-nil, arith, lit<, eqb-true}
+use Rattle.std.proofs.Common.{◌≡◌, ℕ, zero, suc, ◌^◌, ◌<◌, Bool, true, false, cond, eqb, List, [], ◌∷◌, ◌++◌, length, replicate, Ok, sym, refl, ap, ◌∙◌, append_assoc, append-nil, arith, lit<, eqb-true}
 use borrow.Author.Tests.{eqb-false}
 use Rattle.std.specs.List.{AllByRecursion as All}
-use Rattle.cell.specs.Header.{connection_of}
 use Rattle.cell.specs.declared.header.Kind.TheVariants.{F3, User}
 use Rattle.ports.specs.Cell as cells
 use Rattle.ports.specs.Cell.{Cell, octets}

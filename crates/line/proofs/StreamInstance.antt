@@ -1,5 +1,5 @@
 -- A stream that arrives as sent: forty cells of a new sender, in one feed to a new receiving end.
-use Rattle.std.proofs.Common.{◌≡◌, ℕ, suc, ◌+◌, ◌*◌, ◌/◌, ◌<◌, ◌≤◌, Bool, true, false, List, [], ◌∷◌, ◌++◌, length, take, drop, sym, refl, ap, ◌∙◌, subst, append_assoc, append-nil, arith, length-append, take_all}
+use Rattle.std.proofs.Common.{◌≡◌, ℕ, suc, ◌+◌, ◌*◌, ◌≤◌, Bool, true, false, List, [], ◌∷◌, ◌++◌, length, take, drop, sym, refl, ap, ◌∙◌, subst, append_assoc, append-nil, arith, length-append, take_all}
 use Rattle.std.specs.List.{AllByRecursion as All}
 use Rattle.ports.specs.Cell.{Cell, of_connection}
 use Rattle.ports.specs.Sink.{SinkState}
@@ -12,7 +12,7 @@ use Rattle.receiver.specs.Handing.{Moment, bits}
 use Rattle.receiver.specs.Run.{bits_of, step, after, offered}
 use Rattle.line.specs.Heard.{Gains, Ends}
 use Rattle.line.specs.Headers.{hunting}
-use Rattle.line.specs.Instances.{BothEnds, StreamArrives}
+use Rattle.line.specs.Instances.{StreamArrives}
 use Rattle.line.specs.Laws.{header_bits, payload_bits, complete, last_bit, Arrives}
 use Rattle.line.specs.Receiving.{heard}
 use Rattle.line.specs.Sending as sending

@@ -1,7 +1,6 @@
 -- The laws of sent streams, with the F3 payload set or not between sends.
-use Rattle.std.proofs.Common.{◌≡◌, ℕ, zero, suc, ◌+◌, ◌*◌, ◌%◌, ◌^◌, ◌<◌, Bool, true, false, cond, T, eqb, List, [], ◌∷◌, ◌++◌, length, get_or, take, drop, sym, refl, ap, ◌∙◌, subst, ap₂, add-zero, mod-lt, mod-eq_of_lt, zero-add, arith, lit<, eqb→eq, length-append}
+use Rattle.std.proofs.Common.{◌≡◌, ℕ, zero, suc, ◌+◌, ◌*◌, ◌%◌, ◌^◌, ◌<◌, Bool, true, false, cond, T, eqb, List, [], ◌∷◌, ◌++◌, length, take, drop, sym, refl, ap, ◌∙◌, subst, ap₂, add-zero, mod-lt, mod-eq_of_lt, zero-add, arith, lit<, eqb→eq, length-append}
 use native.Mathlib.Nat.{mod-add-mod}
-use lib.Dec.{eqb_refl}
 use lib.Seq.{take-append_seam, drop-append_seam}
 use Rattle.std.specs.List.{AllByRecursion as All}
 use Rattle.std.proofs.ByRecursion.{All-append}
@@ -17,9 +16,9 @@ use Rattle.scrambler.specs.Coding.{coded, coded_header, CarriesSamples}
 use Rattle.scrambler.specs.Generator.{step, iterate}
 use Rattle.scrambler.proofs.Codes.{coded_header_on, carries_samples}
 use Rattle.scrambler.proofs.Steps.{iterate_add}
-use Rattle.sender.specs.Sender.{SenderState, Sends, kind_sent, cell_sent, left_waiting, waiting_kind, waiting_cell, rest, advanced, idle_cell, f3_cell}
+use Rattle.sender.specs.Sender.{SenderState, waiting_kind, waiting_cell, rest, advanced, f3_cell}
 use Rattle.sender.specs.Told.{Octets, with_f3}
-use Rattle.line.specs.Stream.{Send, Sent, Run, none, more, f3_set, Begins, made, start, SentStream, line_of, lost, CellLaws, Parted, StreamLaws}
+use Rattle.line.specs.Stream.{Send, Sent, Run, none, more, f3_set, Begins, made, start, line_of, CellLaws, Parted, StreamLaws}
 use Rattle.sender.specs.Stream.{lost_to, header_on}
 use Rattle.sender.proofs.Octets.{coded-octets}
 use Rattle.sender.proofs.Phases.{steps_running}

@@ -1,11 +1,11 @@
 -- Histories of calls on a sender: every stream that is read off one is a sent stream. Knows nothing of coding.
-use Rattle.std.proofs.Common.{◌≡◌, ℕ, List, [], ◌∷◌, ◌++◌, Ok, Err, Result, sym, refl, subst, append-nil}
+use Rattle.std.proofs.Common.{ℕ, List, [], ◌++◌, Ok, Err, Result, sym, subst, append-nil}
 use Rattle.std.specs.List.{AllByRecursion as All}
 use Rattle.cell.specs.declared.header.Kind.{Kind}
 use Rattle.cell.specs.declared.refusal.Refusal.{Refusal}
 use Rattle.ports.specs.Cell.{User}
 use Rattle.sender.specs.Sender.{SenderState, fresh, StartAnswer, started}
-use Rattle.sender.specs.Told.{F3Answer, with_f3}
+use Rattle.sender.specs.Told.{F3Answer}
 use Rattle.line.specs.Stream as stream
 use Rattle.line.specs.Stream.{Send, Run, none, more, f3_set, Begins, SentStream}
 use Rattle.line.proofs.StreamLaws.{stream_laws}

@@ -1,27 +1,25 @@
--- A sent stream: what one sender's accepted sends write from one accepted start to any next one. Making a sender counts as a start
--- at phase 1. Another source may be lent to each send.
+-- A sent stream, where another F3 payload may be set between sends: what one sender's accepted sends write from one accepted start to any
+-- next one. Making a sender counts as a start at phase 1. Another source may be lent to each send. The sender's own streams, in its crate,
+-- are those in which no F3 payload is set; here each send knows its phase too, and that its payload is of octets.
 --
---   Send            one accepted send: the cells that waited in the source lent to it, the phase at which the cell was coded, the cell
---                   that went out, its kind, the 53 octets that were written, and the cells that wait after it
---   Sent s x s'     the sender s becomes s' by the send x
---   Run s xs s'     the sender s becomes s' by the sends xs, one after the other; another F3 payload of 48 octets may be set between them
---   Begins p s      s is a sender as it is made, with p = 1, or after an accepted start at phase p
---   SentStream p xs the sends xs are a stream, begun at phase p
+--   Send             one accepted send: the cells that waited in the source lent to it, the phase at which the cell was coded, the cell
+--                    that went out, its kind, the 53 octets that were written, and the cells that wait after it
+--   Sent s x s'      the sender s becomes s' by the send x
+--   Run s xs s'      the sender s becomes s' by the sends xs, one after the other; another F3 payload of 48 octets may be set between them
+--   Begins p s       s is a sender as it is made, with p = 1, or after an accepted start at phase p
+--   SentStream p xs  the sends xs are a stream, begun at phase p
 --   cells_of xs      the cells of a stream, in order
 --   line_of xs       the octets of a stream: those of all its cells joined
---   lost x          the user cell that the source's list lost to the send x, if it lost one (lost_to: by its kind)
+--   lost x           the user cell that the source's list lost to the send x, if it lost one
 --   sent_users xs    the sent user cells of a stream: what the sources' lists lost to it, in order
---   header_on line   the header on the line in the first five of its octets
---   CellLaws        what holds of each cell of a sent stream, by the cells before it
---   Parted          a run of sends that is cut in two: the sender between them
---   StreamLaws      what holds of every sent stream, and of runs of sends
-use Rattle.std.specs.Prelude.{◌≡◌, ℕ, ◌*◌, ◌%◌, ◌^◌, ◌<◌, List, [], ◌∷◌, ◌++◌, map, length, slice_index}
+--   CellLaws         what holds of each cell of a sent stream, by the cells before it
+--   Parted           a run of sends that is cut in two: the sender between them
+--   StreamLaws       what holds of every sent stream, and of runs of sends
+use Rattle.std.specs.Prelude.{◌≡◌, ℕ, ◌*◌, ◌%◌, ◌^◌, ◌<◌, List, [], ◌∷◌, ◌++◌, map, length}
 use Rattle.std.specs.List.{AllByRecursion as All}
 use Rattle.cell.specs.Header.{kind_of}
-use Rattle.cell.specs.Sorting.{header_of}
 use Rattle.cell.specs.declared.header.Kind.{Kind}
-use Rattle.cell.specs.declared.header.Kind.TheVariants.{Idle, F3, User}
-use Rattle.cell.specs.declared.line_header.LineHeader.{LineHeader}
+use Rattle.cell.specs.declared.header.Kind.TheVariants.{F3}
 use Rattle.ports.specs.Cell as cells
 use Rattle.ports.specs.Cell.{Cell, octets}
 use Rattle.scrambler.specs.Coding.{coded, CarriesSamples}

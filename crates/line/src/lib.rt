@@ -1,4 +1,5 @@
 // Both ends of the line: histories of their calls, and the theorem over them.
 #![tactic(auto)]
 
+pub mod stream;
 pub mod theorem;

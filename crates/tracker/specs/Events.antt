@@ -10,7 +10,7 @@
 --   ruled m l w u                 what each rule says of the header w, where u are the samples with it
 --   settled l u r                 the state and the events that follow from it
 --   hunt_ends                     the events of a header that ends a hunt
-use Rattle.std.specs.Prelude.{ℕ, Bool, true, false, cond, Some, None, Option}
+use Rattle.std.specs.Prelude.{ℕ, Some, None, Option}
 use Rattle.cell.specs.declared.verdict.Verdict.{Verdict}
 use Rattle.cell.specs.declared.verdict.Verdict.TheVariants.{Clean, OneWrongBit, PastMending}
 use Rattle.scrambler.specs.Generator.{next_phase}

@@ -4,7 +4,6 @@
 --   locked_state l m  the state while a boundary is assumed
 --   state_at m a      the state at the place a: in HUNT the descrambler is in Acquisition with confidence 0
 --   state_of s        the state of a tracker
-use Rattle.std.specs.Prelude.{ℕ}
 use Rattle.tracker.specs.declared.reading.Boundary.{Boundary}
 use Rattle.tracker.specs.declared.reading.Boundary.TheVariants as boundary
 use Rattle.tracker.specs.declared.reading.State.{State}

@@ -7,7 +7,7 @@
 --   bit_step s b           the end s after the bit b
 --   bit_brings s b         what the bit b brings
 --   start                  an end that was made or reset: HUNT, correction mode, no bits
-use Rattle.std.specs.Prelude.{ℕ, ◌+◌, ◌-◌, ◌*◌, ◌%◌, ◌^◌, Bool, true, false, cond, List, [], ◌∷◌, replicate, Some, None, Option, ◌==◌, nat_lt, slice_set}
+use Rattle.std.specs.Prelude.{ℕ, ◌-◌, ◌%◌, ◌^◌, Bool, cond, List, replicate, Some, None, Option, ◌==◌, nat_lt, slice_set}
 use Rattle.cell.specs.declared.header.Header as headers
 use Rattle.scrambler.specs.Coding.{masked}
 use Rattle.tracker.specs.declared.state.Mode.{Mode}

@@ -1,5 +1,4 @@
-use Rattle.std.proofs.Common.{◌≡◌, ℕ, ◌+◌, ◌*◌, ◌/◌, ◌^◌, ◌<◌, arith}
-use Rattle.scrambler.specs.Coding.{sample8, sample7}
+use Rattle.std.proofs.Common.{arith}
 use Rattle.tracker.specs.Window.{predicted}
 use Rattle.tracker.proofs.window.predicted.Goals as goal
 

@@ -6,7 +6,7 @@
 --   octets_of bs  the octets of the bits bs, eight by eight; a rest of fewer than eight is left out
 --   into w bs     the window w after the bits bs
 use Rattle.std.proofs.Common.{◌≡◌, ℕ, suc, ◌+◌, ◌*◌, ◌%◌, ◌^◌, ◌<◌, Bool, true, false, cond, T, eqb, List, [], ◌∷◌, ◌++◌, length, sym, refl, ap, ◌∙◌, subst, ap₂, append_assoc, add_assoc, mod-eq_of_lt, mul_assoc, mul_comm, add-mul, pow-suc, arith, eqb→eq}
-use Rattle.std.specs.List.{AllByRecursion as All}
+use Rattle.std.specs.List.{AllByRecursion}
 use Rattle.cell.specs.Tests.{below}
 use Rattle.cell.proofs.Table.{below_at}
 use Rattle.tracker.specs.declared.tracker.Tracker.{Tracker}
@@ -128,7 +128,7 @@ pub value_octet : (o : ℕ) → o < 2 ^ 8 → value (octet_bits o) ≡ o
 unfolding same_octet
 value_octet o h = eqb→eq (value (octet_bits o)) o (below_at 256 same_octet all_octets o h)
 
-pub octets_of_lem : (os : List ℕ) → All (λ x. x < 2 ^ 8) os → octets_of (bits_of os) ≡ os
+pub octets_of_lem : (os : List ℕ) → AllByRecursion (λ x. x < 2 ^ 8) os → octets_of (bits_of os) ≡ os
 unfolding octet_bits
 octets_of_lem [] h = refl
 octets_of_lem (o ∷ os) h = ap₂ (λ (x : ℕ) (xs : List ℕ). x ∷ xs) (value_octet o h.0) (octets_of_lem os h.1)

@@ -1,6 +1,6 @@
 -- A burst of six damaged cells: forty cells of a new sender, in one feed to a new receiving end, every octet of six of them changed.
 use Rattle.std.proofs.Common.{◌≡◌, ℕ, suc, ◌+◌, ◌*◌, ◌<◌, ◌≤◌, Bool, ◌⊎◌, List, [], ◌∷◌, ◌++◌, map, length, take, drop, sym, refl, ap, ◌∙◌, subst, inr, append_assoc, append-nil, arith, length-append, take_at, drop_at}
-use Rattle.std.specs.List.{AllByRecursion as All}
+use Rattle.std.specs.List.{AllByRecursion}
 use Rattle.cell.specs.declared.header.Kind.TheVariants.{User}
 use Rattle.ports.specs.Cell.{of_connection}
 use Rattle.sender.specs.Sender.{SenderState, fresh, advanced}
@@ -49,7 +49,7 @@ parted before left =
       others = bits_over left (after start before) (sink_over start wide before);
     }
 
-roomy_rest : (past rest : List Moment) → All RoomyAt (past ++ rest) → All RoomyAt rest
+roomy_rest : (past rest : List Moment) → AllByRecursion RoomyAt (past ++ rest) → AllByRecursion RoomyAt rest
 roomy_rest [] rest a = a
 roomy_rest (m ∷ past) rest a = roomy_rest past rest a.1
 
@@ -128,7 +128,7 @@ burst_comes {cs = cs} {s = s} g x₀ ys x six y zs k sends many count few user o
     ∙ sym (append_assoc (bits_of (line_of (x₀ ∷ ys))) (header_bits x) left) in
     let is : moments_over start wide (bits_of os) ≡ v.past ++ v.rest = ap (moments_over start wide) os-bits ∙ v.is in
     let hears : (heard fed.history).newest ≡ v.past ++ v.rest = fed.hears ∙ is in
-    let roomy : All RoomyAt v.rest = roomy_rest v.past v.rest (subst (All RoomyAt) is fed.ready) in
+    let roomy : AllByRecursion RoomyAt v.rest = roomy_rest v.past v.rest (subst (AllByRecursion RoomyAt) is fed.ready) in
     let r = right-after p x₀ ys x back v.past stream many v.heard in
     let f = follows_by v.past v.rest p (x₀ ∷ ys) x back lines r.0 r.1 (header_long_lem code_laws carried.0) (length_burst six later) burst-octets v.others in
     let out : (i : ℕ) → (i < 1) ⊎ (1 + 6 ≤ i) → Undamaged (x ∷ back) (map bits_of (x.line ∷ lines)) i = λ i h. outside_six x six later i count h in

@@ -6,7 +6,7 @@
 --   Heads            a whole header
 use Rattle.std.proofs.Common.{◌≡◌, ℕ, zero, suc, ◌+◌, ◌/◌, ◌%◌, ◌<◌, Bool, true, false, cond, ltb, List, [], ◌∷◌, ◌++◌, length, Some, None, Option, sym, refl, ap, ◌∙◌, subst, arith, length-append, le-ltb, lt-ltb}
 use native.Mathlib.Decide.{dec_lt}
-use Rattle.std.specs.List.{AllByRecursion as All}
+use Rattle.std.specs.List.{AllByRecursion}
 use Rattle.cell.specs.declared.header.Header as headers
 use Rattle.ports.specs.Cell.{Cell}
 use Rattle.scrambler.specs.Coding.{masked}
@@ -52,7 +52,7 @@ offers s [] = []
 offers s (b ∷ bs) = offered s b ∷ offers (step s b) bs
 
 abbrev pub Quiet : List (Option Cell) → Type 0
-Quiet os = All (λ (o : Option Cell). o ≡ None) os
+Quiet os = AllByRecursion (λ (o : Option Cell). o ≡ None) os
 
 pub quiet_append : (xs ys : List (Option Cell)) → Quiet xs → Quiet ys → Quiet (xs ++ ys)
 quiet_append [] ys a b = b

@@ -1,7 +1,7 @@
 -- The laws of the code, from the algebra of the check octet, the generator and the phase finder.
 use Rattle.std.proofs.Common.{◌≡◌, ℕ, zero, suc, ◌+◌, ◌*◌, ◌/◌, ◌%◌, ◌^◌, ◌<◌, Bool, true, false, cond, ltb, List, [], ◌∷◌, length, Ok, Err, sym, refl, ap, ◌∙◌, subst, ap₂, mod-lt, add-one, arith, lit<, pow_pos, ltb-false, le-ltb}
 use lib.Bits.{bit_xor, xor_assoc, xor_self, xor_zero_r, xor_lt, xor_shifted}
-use Rattle.std.specs.List.{AllByRecursion as All}
+use Rattle.std.specs.List.{AllByRecursion}
 use Rattle.cell.specs.CheckOctet.{check_octet}
 use Rattle.cell.specs.LineHeader.{bits40, of_bits, syndrome_of}
 use Rattle.cell.specs.Polynomial.{remainder}
@@ -36,7 +36,7 @@ number_from : ℕ → List ℕ → ℕ
 number_from n [] = n
 number_from n (o ∷ os) = number_from (n * 2 ^ 8 + o) os
 
-value_octets : (os : List ℕ) (n : ℕ) → All (λ x. x < 2 ^ 8) os → value_from n (bits_of os) ≡ number_from n os
+value_octets : (os : List ℕ) (n : ℕ) → AllByRecursion (λ x. x < 2 ^ 8) os → value_from n (bits_of os) ≡ number_from n os
 unfolding number_from
 value_octets [] n h = refl
 value_octets (o ∷ os) n h =
@@ -122,7 +122,7 @@ no_fault_lem = refl
 
 -- ---- payloads
 
-masked-octets : (xs : List ℕ) (k p : ℕ) → All (λ x. x < 2 ^ 8) xs → All (λ x. x < 2 ^ 8) (masked k p xs)
+masked-octets : (xs : List ℕ) (k p : ℕ) → AllByRecursion (λ x. x < 2 ^ 8) xs → AllByRecursion (λ x. x < 2 ^ 8) (masked k p xs)
 unfolding masked octet_ahead
 masked-octets [] k p h = tt
 masked-octets (x ∷ xs) k p h = (xor_lt 8 x (octet_ahead k p) h.0 (mod-lt (iterate (k + 8) step p) (pow_pos 8)), masked-octets xs (k + 8) p h.1)

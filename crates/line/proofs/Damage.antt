@@ -5,7 +5,7 @@
 --   damaged os       the octets os, each of them changed
 --   burst six later  the lines as they come in: those of the sends six damaged, those of later as sent
 use Rattle.std.proofs.Common.{◌≡◌, ℕ, zero, suc, ◌+◌, ◌*◌, ◌%◌, ◌^◌, ◌<◌, ◌≤◌, ◌⊎◌, List, [], ◌∷◌, ◌++◌, map, length, get_or, sym, refl, ap, ◌∙◌, inl, inr, append_assoc, mod-lt, arith, lit<, length-append}
-use Rattle.std.specs.List.{AllByRecursion as All}
+use Rattle.std.specs.List.{AllByRecursion}
 use Rattle.sender.specs.Told.{Octets}
 use Rattle.line.specs.Stream.{Send, SentStream, line_of}
 use Rattle.line.proofs.StreamLaws.{stream_laws}
@@ -17,7 +17,7 @@ use Rattle.line.proofs.Bits.{bits_of-append, length-bits_of, octets_of_lem, octe
 -- ---- lines of octets
 
 abbrev pub Octets53 : List (List ℕ) → Type 0
-Octets53 ls = All (λ l. Octets 53 l) ls
+Octets53 ls = AllByRecursion (λ l. Octets 53 l) ls
 
 abbrev pub lines_of : List Send → List (List ℕ)
 lines_of xs = map (λ x. x.line) xs
@@ -38,7 +38,7 @@ pub length-join : (ls : List (List ℕ)) → Octets53 ls → length (join ls) �
 length-join [] h = refl
 length-join (l ∷ ls) h = length-append l (join ls) ∙ (let a = h.0.0 in let b = length-join ls h.1 in omega arith)
 
-pub bits_whole : (ls : List (List ℕ)) → Octets53 ls → All (λ w. length w ≡ 424) (map bits_of ls)
+pub bits_whole : (ls : List (List ℕ)) → Octets53 ls → AllByRecursion (λ w. length w ≡ 424) (map bits_of ls)
 bits_whole [] h = tt
 bits_whole (l ∷ ls) h = (length-bits_of l ∙ ap (λ (n : ℕ). 8 * n) h.0.0, bits_whole ls h.1)
 
@@ -69,7 +69,7 @@ octets-back (l ∷ ls) ms h = octets-back ls ms h.1
 abbrev pub damaged : List ℕ → List ℕ
 damaged os = map (λ o. (o + 1) % 2 ^ 8) os
 
-damaged_octets : (os : List ℕ) → All (λ o. o < 2 ^ 8) (damaged os)
+damaged_octets : (os : List ℕ) → AllByRecursion (λ o. o < 2 ^ 8) (damaged os)
 damaged_octets [] = tt
 damaged_octets (o ∷ os) = (mod-lt (o + 1) (lit< tt), damaged_octets os)
 

@@ -6,7 +6,7 @@
 --   Knows d hs        what the descrambler's state d says of the headers hs
 --   Keeps u hs        u are the samples of the headers hs, as far as they are kept
 use Rattle.std.proofs.Common.{◌≡◌, ℕ, suc, ◌+◌, ◌-◌, ◌*◌, ◌%◌, ◌^◌, ◌≤◌, Bool, true, false, cond, eqb, ltb, List, [], ◌∷◌, ◌++◌, length, Ok, Err, Result, sym, refl, ap, ◌∙◌, subst, mul_assoc, pow-suc, arith, ltb-false, ltb-true}
-use Rattle.std.specs.List.{AllByRecursion as All}
+use Rattle.std.specs.List.{AllByRecursion}
 use Rattle.cell.specs.declared.refusal.Refusal.{Refusal}
 use Rattle.scrambler.specs.Finder.{found, OnePhase}
 use Rattle.scrambler.specs.Generator.{next_phase}
@@ -22,7 +22,7 @@ pub record AgreeingRow (c : ℕ) (hs : List ℕ) : Type 0 where
   pub earlier : List ℕ
   pub split : hs ≡ row ++ earlier
   pub count : length row ≡ c
-  pub agree : All (λ h. agrees h ≡ true) row
+  pub agree : AllByRecursion (λ h. agrees h ≡ true) row
   pub most : c ≤ 15
 
 pub record Gave (n : ℕ) (p : ℕ) (hs : List ℕ) : Type 0 where
@@ -31,7 +31,7 @@ pub record Gave (n : ℕ) (p : ℕ) (hs : List ℕ) : Type 0 where
   pub earlier : List ℕ
   pub split : hs ≡ later ++ (sixteen ++ earlier)
   pub count : length sixteen ≡ 16
-  pub agree : All (λ h. agrees h ≡ true) sixteen
+  pub agree : AllByRecursion (λ h. agrees h ≡ true) sixteen
   pub phase : ℕ
   pub gave : OnePhase (samples_from sixteen % 2 ^ 31) phase
   pub moved : p ≡ phase_on phase later
@@ -108,7 +108,7 @@ last_samples u hs row earlier w s c k =
     ∙ over (samples_from earlier) (samples_from (w ∷ row)) in
     sym (lower (sampled u w)) ∙ ap (λ (z : ℕ). z % 2 ^ 31) (a ∙ c') ∙ lower (samples_from (w ∷ row))
 
-knows_found : (o : Result ℕ Refusal) (row earlier : List ℕ) (w : ℕ) → length row ≡ 15 → All (λ h. agrees h ≡ true) (w ∷ row)
+knows_found : (o : Result ℕ Refusal) (row earlier : List ℕ) (w : ℕ) → length row ≡ 15 → AllByRecursion (λ h. agrees h ≡ true) (w ∷ row)
     → ((p : ℕ) → o ≡ Ok p → OnePhase (samples_from (w ∷ row) % 2 ^ 31) p) → Knows (found_phase o) (w ∷ (row ++ earlier))
 knows_found (Err e) row earlier w c a f = row_none (w ∷ (row ++ earlier))
 knows_found (Ok p) row earlier w c a f = record {

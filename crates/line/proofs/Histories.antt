@@ -1,7 +1,7 @@
 -- Histories of calls on a receiving end: where its tracker stands, and that every stretch is heard from its making or a reset on.
 -- Knows of a feed only that its moments are worked one after the other.
 use Rattle.std.proofs.Common.{◌≡◌, ℕ, List, [], ◌∷◌, ◌++◌, Ok, Err, Result, sym, refl, ap, ◌∙◌, subst}
-use Rattle.std.specs.List.{AllByRecursion as All}
+use Rattle.std.specs.List.{AllByRecursion}
 use Rattle.cell.specs.declared.refusal.Refusal.{Refusal}
 use Rattle.tracker.specs.declared.tracker.Tracker.{Tracker}
 use Rattle.tracker.specs.Tracker.{start}
@@ -17,7 +17,7 @@ use Rattle.line.proofs.Runs.{after-append, bits-append, heard-append, heard_alon
 pub record Stands (r : Receiver) (s : Stretches) : Type 0 where
   pub tracker : r.tracker ≡ after start (bits s.newest)
   pub newest : Heard start s.newest
-  pub earlier : All (Heard start) s.earlier
+  pub earlier : AllByRecursion (Heard start) s.earlier
 
 module _ (r : Receiver) (f : Feed) (r' : Receiver) where
   fed_tracker : (answer : Result ℕ Refusal) (h : Feeding r f answer r') → r'.tracker ≡ after r.tracker (bits (moments_of r f r' answer h))
@@ -55,12 +55,12 @@ history_stands made = record { tracker = refl; newest = tt; earlier = tt }
 history_stands (called {r = r} {r' = r'} {c = c} h x) = call_stands r c r' x (heard h) (history_stands h)
 
 -- what holds of everything that is heard from a start on holds of every stretch
-pub each_stretch : (P : List Moment → Type 0) → ((all : List Moment) → Heard start all → P all) → {cs : List Call} {r : Receiver} (h : History cs r) → All P (stretches h)
+pub each_stretch : (P : List Moment → Type 0) → ((all : List Moment) → Heard start all → P all) → {cs : List Call} {r : Receiver} (h : History cs r) → AllByRecursion P (stretches h)
 each_stretch P f {r = r} h = (f (heard h).newest st.newest, each (heard h).earlier st.earlier)
   where
     st : Stands r (heard h)
     st = history_stands h
 
-    each : (ss : List (List Moment)) → All (Heard start) ss → All P ss
+    each : (ss : List (List Moment)) → AllByRecursion (Heard start) ss → AllByRecursion P ss
     each [] a = tt
     each (s ∷ ss) a = (f s a.0, each ss a.1)

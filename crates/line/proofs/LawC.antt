@@ -2,7 +2,7 @@
 -- Knows the code by the record CodeLaws only, and of sinks nothing but what a row of offers adds.
 use Rattle.std.proofs.Common.{◌≡◌, ℕ, zero, suc, ◌+◌, ◌*◌, ◌<◌, ◌≤◌, Bool, ◌⊎◌, List, [], ◌∷◌, ◌++◌, map, length, get_or, take, drop, None, sym, refl, ap, ◌∙◌, subst, inl, inr, ⊎_elim, append_assoc, arith, length-append, length-drop, take-append-drop, length-take}
 use lib.Seq.{drop-append-le}
-use Rattle.std.specs.List.{AllByRecursion as All}
+use Rattle.std.specs.List.{AllByRecursion}
 use Rattle.cell.specs.declared.header.Kind.TheVariants.{User}
 use Rattle.ports.specs.Cell.{Cell, of_connection}
 use Rattle.line.specs.Stream.{Send, lost}
@@ -36,11 +36,11 @@ flat_join [] = refl
 flat_join (g ∷ gs) = ap (λ z. take 40 g ++ (drop 40 g ++ z)) (flat_join gs) ∙ sym (append_assoc (take 40 g) (drop 40 g) (join gs))
     ∙ ap (λ z. z ++ join gs) (take-append-drop 40 g)
 
-length-join : (gs : List (List Bool)) → All (λ g. length g ≡ 424) gs → length (join gs) ≡ 424 * length gs
+length-join : (gs : List (List Bool)) → AllByRecursion (λ g. length g ≡ 424) gs → length (join gs) ≡ 424 * length gs
 length-join [] e = refl
 length-join (g ∷ gs) e = length-append g (join gs) ∙ (let h = e.0 in let z = length-join gs e.1 in omega arith)
 
-sized_got : (gs : List (List Bool)) → All (λ g. length g ≡ 424) gs → Sized (frames_of gs)
+sized_got : (gs : List (List Bool)) → AllByRecursion (λ g. length g ≡ 424) gs → Sized (frames_of gs)
 sized_got [] e = tt
 sized_got (g ∷ gs) e = (length-take 40 g ∙ (let h = e.0 in omega arith), length-drop 40 g ∙ (let h = e.0 in omega arith), sized_got gs e.1)
 

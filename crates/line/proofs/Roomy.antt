@@ -7,7 +7,7 @@
 --   sink_over s k bs     the sink after them
 --   Roomy n k            the sink k serves every header and has space for n cells or more of each connection
 use Rattle.std.proofs.Common.{◌≡◌, ℕ, suc, ◌-◌, ◌^◌, ◌<◌, ◌≤◌, Bool, true, false, cond, List, [], ◌∷◌, ◌++◌, length, Some, None, Ok, Option, sym, refl, ap, ◌∙◌, subst, append-nil, arith, eq-eqb, ne_eqb}
-use Rattle.std.specs.List.{AllByRecursion as All}
+use Rattle.std.specs.List.{AllByRecursion}
 use Rattle.cell.specs.Header.{connection_of, kind_of, reserved}
 use Rattle.cell.specs.declared.header.Kind.{Kind}
 use Rattle.cell.specs.declared.header.Kind.TheVariants.{Idle, F3, User}
@@ -136,19 +136,19 @@ along_over (b ∷ bs) s k l r =
     let h = hands_roomy (offered s b) k (length bs) (offered_fit s b l) r in
     (refl, h.0, along_over bs (step s b) (sink_with (offered s b) k) (step_long s b l) h.1)
 
-roomy_over : (bs : List Bool) (s : Tracker) (k : SinkState) → length s.payload ≡ 48 → Roomy (length bs) k → All RoomyAt (moments_over s k bs)
+roomy_over : (bs : List Bool) (s : Tracker) (k : SinkState) → length s.payload ≡ 48 → Roomy (length bs) k → AllByRecursion RoomyAt (moments_over s k bs)
 roomy_over [] s k l r = tt
 roomy_over (b ∷ bs) s k l r =
     let h = hands_roomy (offered s b) k (length bs) (offered_fit s b l) r in
     (record { serves = r.serves; space = λ j. let x = r.space j in omega arith }, roomy_over bs (step s b) (sink_with (offered s b) k) (step_long s b l) h.1)
 
-roomy_in : (past rest : List Moment) (m : Moment) → All RoomyAt (past ++ m ∷ rest) → RoomyAt m
+roomy_in : (past rest : List Moment) (m : Moment) → AllByRecursion RoomyAt (past ++ m ∷ rest) → RoomyAt m
 roomy_in [] rest m a = a.0
 roomy_in (p ∷ past) rest m a = roomy_in past rest m a.1
 
-pub roomy_ready : (ms : List Moment) → All RoomyAt ms → (i : ℕ) (c : Cell) → ReadyAt ms i c
+pub roomy_ready : (ms : List Moment) → AllByRecursion RoomyAt ms → (i : ℕ) (c : Cell) → ReadyAt ms i c
 roomy_ready ms a i c past rest m e l =
-    let r = roomy_in past rest m (subst (All RoomyAt) e a) in
+    let r = roomy_in past rest m (subst (AllByRecursion RoomyAt) e a) in
     (r.serves c.header, r.space (connection_of c.header))
 
 -- ---- one feed to a new receiving end
@@ -161,7 +161,7 @@ pub record FedNew (os : List ℕ) : Type 0 where
   pub receiver : Receiver
   pub history : History (call ∷ []) receiver
   pub hears : (heard history).newest ≡ moments_over start wide (bits_of os)
-  pub ready : All RoomyAt (moments_over start wide (bits_of os))
+  pub ready : AllByRecursion RoomyAt (moments_over start wide (bits_of os))
 
 -- with a ring of a thousand places
 pub feed_new : (os : List ℕ) → 0 < length os → length os ≤ 4096 → FedNew os

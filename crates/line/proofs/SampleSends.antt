@@ -7,7 +7,7 @@
 --   Grown n h     the history h with n such sends more
 use Rattle.std.proofs.Common.{◌≡◌, ℕ, zero, suc, ◌^◌, ◌<◌, Bool, true, false, cond, eqb, List, [], ◌∷◌, ◌++◌, length, replicate, Ok, sym, refl, ap, ◌∙◌, append_assoc, append-nil, arith, lit<, eqb-true}
 use borrow.Author.Tests.{eqb-false}
-use Rattle.std.specs.List.{AllByRecursion as All}
+use Rattle.std.specs.List.{AllByRecursion}
 use Rattle.cell.specs.declared.header.Kind.TheVariants.{F3, User}
 use Rattle.ports.specs.Cell as cells
 use Rattle.ports.specs.Cell.{Cell, octets}
@@ -49,7 +49,7 @@ abbrev pub sent_on : ℕ → SenderState → SenderState
 sent_on zero s = s
 sent_on (suc n) s = sent_on n (advanced s)
 
-all_replicate : (n x : ℕ) → x < 2 ^ 8 → All (λ y. y < 2 ^ 8) (replicate n x)
+all_replicate : (n x : ℕ) → x < 2 ^ 8 → AllByRecursion (λ y. y < 2 ^ 8) (replicate n x)
 all_replicate zero x h = tt
 all_replicate (suc n) x h = (h, all_replicate n x h)
 

@@ -1,6 +1,6 @@
 -- A stream that arrives as sent: forty cells of a new sender, in one feed to a new receiving end.
 use Rattle.std.proofs.Common.{◌≡◌, ℕ, suc, ◌+◌, ◌*◌, ◌≤◌, Bool, true, false, List, [], ◌∷◌, ◌++◌, length, take, drop, sym, refl, ap, ◌∙◌, subst, append_assoc, append-nil, arith, length-append, take_all}
-use Rattle.std.specs.List.{AllByRecursion as All}
+use Rattle.std.specs.List.{AllByRecursion}
 use Rattle.ports.specs.Cell.{Cell, of_connection}
 use Rattle.ports.specs.Sink.{SinkState}
 use Rattle.sender.specs.Sender.{SenderState, fresh, advanced}
@@ -57,7 +57,7 @@ parted x left c =
       others = bits_over left (step s b) (sink_with (offered s b) k);
     }
 
-roomy_after : (past rest : List Moment) (m : Moment) → All RoomyAt (past ++ m ∷ rest) → All RoomyAt rest
+roomy_after : (past rest : List Moment) (m : Moment) → AllByRecursion RoomyAt (past ++ m ∷ rest) → AllByRecursion RoomyAt rest
 roomy_after [] rest m a = a.1
 roomy_after (x ∷ past) rest m a = roomy_after past rest m a.1
 
@@ -76,7 +76,7 @@ stream_comes {cs = cs} {s = s} g x back k c cells sends some few users =
     let v : Parted x left = parted x left (caught code_laws x x.phase carried.0) in
     let is : moments_over start wide (bits_of (line_of (x ∷ back))) ≡ v.past ++ v.m ∷ v.rest = ap (moments_over start wide) (stream_bits x back) ∙ v.is in
     let hears : (heard fed.history).newest ≡ v.past ++ v.m ∷ v.rest = fed.hears ∙ is in
-    let roomy : All RoomyAt v.rest = roomy_after v.past v.rest v.m (subst (All RoomyAt) is fed.ready) in
+    let roomy : AllByRecursion RoomyAt v.rest = roomy_after v.past v.rest v.m (subst (AllByRecursion RoomyAt) is fed.ready) in
     let long : length v.rest ≡ 384 + 424 * length back =
     sym (length-bits v.rest) ∙ ap length v.others ∙ length-append (payload_bits x) (bits_of (line_of back))
     ∙ (let a = payload_long_lem code_laws carried.0 in let b = length-bits_of (line_of back) in omega arith) in

@@ -2,7 +2,7 @@
 use Rattle.std.proofs.Common.{◌≡◌, ℕ, zero, suc, ◌+◌, ◌*◌, ◌%◌, ◌^◌, ◌<◌, Bool, true, false, cond, T, eqb, List, [], ◌∷◌, ◌++◌, length, take, drop, sym, refl, ap, ◌∙◌, subst, ap₂, add-zero, mod-lt, mod-eq_of_lt, zero-add, arith, lit<, eqb→eq, length-append}
 use native.Mathlib.Nat.{mod-add-mod}
 use lib.Seq.{take-append_seam, drop-append_seam}
-use Rattle.std.specs.List.{AllByRecursion as All}
+use Rattle.std.specs.List.{AllByRecursion}
 use Rattle.std.proofs.ByRecursion.{All-append}
 use Rattle.cell.specs.Header.{kind_of}
 use Rattle.cell.specs.Sorting.{header_of}
@@ -95,7 +95,7 @@ f3_only true w e = refl
 f3_only false [] e = absurd (let z : ◌≡◌ {A = ℕ} 0 1 = cc in omega arith)
 f3_only false (c ∷ w) e = absurd (let z : ◌≡◌ {A = ℕ} 0 1 = cc in omega arith)
 
-header_lt : (t : Bool) (f : List ℕ) (w : List Cell) → All cells.User w
+header_lt : (t : Bool) (f : List ℕ) (w : List Cell) → AllByRecursion cells.User w
     → (cond t (record { header = 0x00000009; payload = f }) (waiting_cell w)).header < 2 ^ 32
 header_lt true f w us = lit< tt
 header_lt false f [] us = lit< tt
@@ -108,7 +108,7 @@ taken_by_lem false f [] kind cell left k c l = sym (ap₂ (λ (a : Kind) (b : Li
 taken_by_lem false f (d ∷ w) kind cell left k c l =
     sym (ap₂ (λ (a : Kind) (b : List Cell). lost_to a cell ++ b) k l ∙ ap (λ (e : Cell). e ∷ w) c)
 
-kind_by : (t : Bool) (f : List ℕ) (w : List Cell) → All cells.User w
+kind_by : (t : Bool) (f : List ℕ) (w : List Cell) → AllByRecursion cells.User w
     → cond t F3 (waiting_kind w) ≡ kind_of (cond t (record { header = 0x00000009; payload = f }) (waiting_cell w)).header
 kind_by true f w us = refl
 kind_by false f [] us = refl

@@ -1,6 +1,6 @@
 -- Histories of calls on a sender: every stream that is read off one is a sent stream. Knows nothing of coding.
 use Rattle.std.proofs.Common.{ℕ, List, [], ◌++◌, Ok, Err, Result, sym, subst, append-nil}
-use Rattle.std.specs.List.{AllByRecursion as All}
+use Rattle.std.specs.List.{AllByRecursion}
 use Rattle.cell.specs.declared.header.Kind.{Kind}
 use Rattle.cell.specs.declared.refusal.Refusal.{Refusal}
 use Rattle.ports.specs.Cell.{User}
@@ -24,7 +24,7 @@ record Leads (x : Stream) (s : SenderState) : Type 0 where
 -- all streams of a sender that is now s
 record Stands (s : SenderState) (t : Streams) : Type 0 where
   newest : Leads t.newest s
-  earlier : All IsSent t.earlier
+  earlier : AllByRecursion IsSent t.earlier
 
 is_sent : (x : Stream) (s : SenderState) → Leads x s → IsSent x
 is_sent x s h = record { first = h.first; last = s; begins = h.begins; run = h.run }
@@ -38,7 +38,7 @@ start-stands s s' p (Ok u) t h st =
     (record { newest = record { first = started s p; begins = stream.start s p h.0 h.1; run = none }; earlier = (is_sent t.newest s st.newest, st.earlier) })
 start-stands s s' p (Err e) t h st = subst (λ (z : SenderState). Stands z t) (sym h.1) st
 
-send_runs : (s s' : SenderState) (x : Sending) (answer : Result Kind Refusal) → All User x.waiting → Sends s x answer s' → Run s (sent_by s x answer) s'
+send_runs : (s s' : SenderState) (x : Sending) (answer : Result Kind Refusal) → AllByRecursion User x.waiting → Sends s x answer s' → Run s (sent_by s x answer) s'
 send_runs s s' x (Ok kind) us h = more (stream_laws.accepted s s' x.waiting x.waiting' kind x.place' us h.0.1 h.1) none
 send_runs s s' x (Err e) us h = subst (λ (z : SenderState). Run s [] z) (sym h.0.1) none
 
@@ -59,7 +59,7 @@ history_stands : {cs : List Call} {s : SenderState} (h : History cs s) → Stand
 history_stands made = record { newest = record { first = fresh; begins = stream.made; run = none }; earlier = tt }
 history_stands (called {s = s} {s' = s'} {c = c} h x) = call_stands s c s' (sent h) x (history_stands h)
 
-pub streams-sent : {cs : List Call} {s : SenderState} (h : History cs s) → All (λ x. SentStream x.begins x.sends) (streams h)
+pub streams-sent : {cs : List Call} {s : SenderState} (h : History cs s) → AllByRecursion (λ x. SentStream x.begins x.sends) (streams h)
 streams-sent {s = s} h =
     let st = history_stands h in
     (is_sent (sent h).newest s st.newest, st.earlier)

@@ -9,7 +9,7 @@
 --   Survives      what is offered while the cells gs come in, where ls were sent, and that the end stays in step
 use Rattle.std.proofs.Common.{◌≡◌, ℕ, zero, suc, ◌+◌, ◌-◌, ◌*◌, ◌<◌, ◌≤◌, Bool, true, false, cond, ltb, ◌⊎◌, List, [], ◌∷◌, ◌++◌, map, length, get_or, take, drop, Some, None, Option, sym, refl, ap, ◌∙◌, subst, ap₂, inl, inr, ⊎_elim, true≢false, arith, length-append, length-drop, length-take, lt-ltb}
 use lib.Seq.{take-append-add}
-use Rattle.std.specs.List.{AllByRecursion as All}
+use Rattle.std.specs.List.{AllByRecursion}
 use Rattle.cell.specs.Verdict.{verdict_of}
 use Rattle.cell.specs.declared.header.Header as headers
 use Rattle.cell.specs.declared.verdict.Verdict.{Verdict}
@@ -182,7 +182,7 @@ module _ (laws : CodeLaws) where
 
   pub survives : (gs : List (List Bool)) (ls : List Send) (d r : ℕ) (kept : Option headers.Header) (n c q : ℕ) (m : Mode) (u : ℕ) (w : List Bool)
       → n + r ≤ 6 → 18 + r ≤ c → c ≤ 24
-      → CarriedOn (next_phase q) ls → All (λ g. length g ≡ 424) gs → length gs ≡ length ls → Same gs (lines_of ls) d r
+      → CarriedOn (next_phase q) ls → AllByRecursion (λ g. length g ≡ 424) gs → length gs ≡ length ls → Same gs (lines_of ls) d r
       → Survives m kept (synced n c q u) q w gs ls
   survives [] ls d r kept n c q m u w hx hc hm f l many s = record {
     us = user_cell (cell_from kept (synced n c q u) w) ∷ [];

@@ -11,7 +11,7 @@
 --                      and no other; and of the headers after them at least eight agree and have the samples of that phase, moved on.
 --                      Other headers may lie among the eight
 use Rattle.std.specs.Prelude.{◌≡◌, ℕ, ◌+◌, ◌*◌, ◌%◌, ◌^◌, ◌≤◌, Bool, true, false, cond, List, [], ◌∷◌, ◌++◌, length, ◌==◌}
-use Rattle.std.specs.List.{AllByRecursion as All}
+use Rattle.std.specs.List.{AllByRecursion}
 use Rattle.scrambler.specs.Finder.{OnePhase}
 use Rattle.scrambler.specs.Generator.{next_phase}
 use Rattle.tracker.specs.declared.state.Place.{Place}
@@ -59,7 +59,7 @@ pub record Preceded (hs : List ℕ) : Type 0 where
   pub earlier : List ℕ
   pub split : hs ≡ later ++ (sixteen ++ earlier)
   pub count : length sixteen ≡ 16
-  pub agree : All (λ h. agrees h ≡ true) sixteen
+  pub agree : AllByRecursion (λ h. agrees h ≡ true) sixteen
   pub phase : ℕ
   pub gave : OnePhase (samples_from sixteen % 2 ^ 31) phase
   pub eight : 8 ≤ as_predicted phase later

@@ -37,7 +37,7 @@
 --   Laws              all five
 --   LawsThroughout    they hold at each moment, of what has come so far; so that a stream may end, and others may follow it
 use Rattle.std.specs.Prelude.{◌≡◌, ℕ, suc, ◌+◌, ◌*◌, ◌/◌, ◌<◌, ◌≤◌, Bool, true, false, ◌⊎◌, List, [], ◌∷◌, ◌++◌, map, length, take, drop, Some, None, Option, slice_index_or}
-use Rattle.std.specs.List.{AllByRecursion as All}
+use Rattle.std.specs.List.{AllByRecursion}
 use Rattle.cell.specs.declared.header.Header as header
 use Rattle.cell.specs.declared.header.Kind.TheVariants.{User}
 use Rattle.ports.specs.Cell.{Cell, of_connection}
@@ -115,7 +115,7 @@ pub record Right (past : List Moment) (p : ℕ) (front : List Send) (x : Send) (
 pub record Follows (past rest : List Moment) (p : ℕ) (front : List Send) (x : Send) (back : List Send) (got : List (List Bool)) : Type 0 where
   pub right : Right past p front x back
   pub as_many : length got ≡ length (x ∷ back)
-  pub whole : All (λ w. length w ≡ 424) got
+  pub whole : AllByRecursion (λ w. length w ≡ 424) got
   pub first : take 40 (join got) ≡ header_bits x
   pub comes : Begins (bits rest) (drop 40 (join got))
 

@@ -11,7 +11,7 @@
 --   sent h        what it has sent by the history h: its accepted sends
 --   streams h     all of that, stream by stream, the newest in front
 use Rattle.std.specs.Prelude.{ℕ, List, [], ◌∷◌, ◌++◌, Ok, Err, Result}
-use Rattle.std.specs.List.{AllByRecursion as All}
+use Rattle.std.specs.List.{AllByRecursion}
 use Rattle.cell.specs.declared.header.Kind.{Kind}
 use Rattle.cell.specs.declared.refusal.Refusal.{Refusal}
 use Rattle.ports.specs.Cell.{Cell, User}
@@ -36,7 +36,7 @@ Sends s x answer s' = SendAnswer s x.waiting x.place answer s' x.waiting' x.plac
 
 abbrev pub Calls : SenderState → Call → SenderState → Type 0
 Calls s (start p answer) s' = StartAnswer s p answer s'
-Calls s (send x) s' = All User x.waiting × Sends s x x.answer s'
+Calls s (send x) s' = AllByRecursion User x.waiting × Sends s x x.answer s'
 Calls s (set_f3 f answer) s' = F3Answer s f answer s'
 
 pub data History : List Call → SenderState → Type 0 where

@@ -16,7 +16,7 @@
 --   Parted           a run of sends that is cut in two: the sender between them
 --   StreamLaws       what holds of every sent stream, and of runs of sends
 use Rattle.std.specs.Prelude.{◌≡◌, ℕ, ◌*◌, ◌%◌, ◌^◌, ◌<◌, List, [], ◌∷◌, ◌++◌, map, length}
-use Rattle.std.specs.List.{AllByRecursion as All}
+use Rattle.std.specs.List.{AllByRecursion}
 use Rattle.cell.specs.Header.{kind_of}
 use Rattle.cell.specs.declared.header.Kind.{Kind}
 use Rattle.cell.specs.declared.header.Kind.TheVariants.{F3}
@@ -37,7 +37,7 @@ pub record Send : Type 0 where
   pub left : List Cell
 
 pub record Sent (s : SenderState) (x : Send) (s' : SenderState) : Type 0 where
-  pub users : All cells.User x.waiting
+  pub users : AllByRecursion cells.User x.waiting
   pub phase : x.phase ≡ s.phase
   pub cell : x.cell ≡ cell_sent s x.waiting
   pub sends : Sends s x.waiting x.kind x.line s' x.left
@@ -97,7 +97,7 @@ pub record Parted (s : SenderState) (xs ys : List Send) (u : SenderState) : Type
 
 pub record StreamLaws : Type 0 where
   -- an accepted send, as its contract tells it, is a send of a run
-  pub accepted : (s s' : SenderState) (waiting left : List Cell) (kind : Kind) (line : List ℕ) → All cells.User waiting → Sends s waiting kind line s' left → SendTold s waiting kind
+  pub accepted : (s s' : SenderState) (waiting left : List Cell) (kind : Kind) (line : List ℕ) → AllByRecursion cells.User waiting → Sends s waiting kind line s' left → SendTold s waiting kind
       → Sent s (record { waiting = waiting; phase = s.phase; cell = cell_sent s waiting; kind = kind; line = line; left = left }) s'
   pub cells : (p : ℕ) (xs : List Send) → SentStream p xs → (front : List Send) (x : Send) (back : List Send) → xs ≡ front ++ x ∷ back → CellLaws p front x
   -- 53 octets go over the line for each cell

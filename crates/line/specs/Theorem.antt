@@ -12,7 +12,7 @@
 --                    the phase of its start, so that the laws speak of what any sender's calls write; and the next call makes a history
 --                    again
 use Rattle.std.specs.Prelude.{◌≡◌, ℕ, ◌<◌, ◌≤◌, List, [], ◌∷◌, ◌++◌, length, Result}
-use Rattle.std.specs.List.{AllByRecursion as All}
+use Rattle.std.specs.List.{AllByRecursion}
 use Rattle.cell.specs.declared.refusal.Refusal.{Refusal}
 use Rattle.ports.specs.Cell.{User}
 use Rattle.sender.specs.Sender.{SenderState, StartAnswer, SendAnswer}
@@ -50,7 +50,7 @@ pub record MendedTold (g g' : Log) : Type 0 where
 
 pub record Received {cs : List receiving.Call} {r : Receiver} (h : receiving.History cs r) : Type 0 where
   pub tracker : r.tracker ≡ after start (bits (heard h).newest)
-  pub laws : All LawsThroughout (stretches h)
+  pub laws : AllByRecursion LawsThroughout (stretches h)
   -- the moment m of the next feed, with those of the feed before it
   pub mended : (f : receiving.Feed) (n : ℕ) (r' : Receiver) (fed : Feeds f.octets r f.sink f.events n r' f.sink' f.events')
       (before later : List Moment) (m : Moment) → fed.works.moments ≡ before ++ m ∷ later
@@ -66,10 +66,10 @@ pub record Received {cs : List receiving.Call} {r : Receiver} (h : receiving.His
   pub f3_payload : receiving.History (receiving.f3_payload r.book.f3 ∷ cs) r
 
 pub record Sent {cs : List sending.Call} {s : SenderState} (h : sending.History cs s) : Type 0 where
-  pub streams : All (λ x. SentStream x.begins x.sends) (streams h)
+  pub streams : AllByRecursion (λ x. SentStream x.begins x.sends) (streams h)
   -- the next call
   pub start : (p : ℕ) (answer : Result (Unit {0}) Refusal) (s' : SenderState) → StartAnswer s p answer s' → sending.History (sending.start p answer ∷ cs) s'
-  pub send : (x : sending.Sending) (s' : SenderState) → All User x.waiting → SendAnswer s x.waiting x.place x.answer s' x.waiting' x.place'
+  pub send : (x : sending.Sending) (s' : SenderState) → AllByRecursion User x.waiting → SendAnswer s x.waiting x.place x.answer s' x.waiting' x.place'
       → SendTells s x.waiting x.answer → sending.History (sending.send x ∷ cs) s'
   pub set_f3 : (f : List ℕ) (answer : Result (Unit {0}) Refusal) (s' : SenderState) → F3Answer s f answer s' → sending.History (sending.set_f3 f answer ∷ cs) s'
 

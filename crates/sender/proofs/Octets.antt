@@ -1,7 +1,7 @@
 -- Octets: of a payload, and of a coded cell.
 use Rattle.std.proofs.Common.{◌≡◌, ℕ, ◌+◌, ◌*◌, ◌%◌, ◌^◌, ◌<◌, List, [], ◌∷◌, length, get_or, drop, sym, ◌∙◌, subst, mod-lt, arith, lit<, length-drop, pow_pos}
 use lib.Bits.{bit_xor, xor_lt}
-use Rattle.std.specs.List.{AllByRecursion as All}
+use Rattle.std.specs.List.{AllByRecursion}
 use Rattle.std.proofs.ByRecursion.{All-drop, All-from_get_or}
 use Rattle.cell.specs.CheckOctet.{check_octet}
 use Rattle.cell.specs.Polynomial.{remainder}
@@ -21,7 +21,7 @@ slice_octets xs l h = (l, All-from_get_or _ xs 0 (λ i _. h i))
 pub payload_octets : (xs : List ℕ) → length xs ≡ 52 → ((i : ℕ) → get_or xs i 0 < 2 ^ 8) → Octets 48 (drop 4 xs)
 payload_octets xs l h = (simp length-drop (omega arith), All-drop _ 4 xs (All-from_get_or _ xs 0 (λ i _. h i)))
 
-masked-octets : (xs : List ℕ) (k p : ℕ) → All (λ x. x < 2 ^ 8) xs → All (λ x. x < 2 ^ 8) (masked k p xs)
+masked-octets : (xs : List ℕ) (k p : ℕ) → AllByRecursion (λ x. x < 2 ^ 8) xs → AllByRecursion (λ x. x < 2 ^ 8) (masked k p xs)
 unfolding masked octet_ahead
 masked-octets [] k p h = tt
 masked-octets (x ∷ xs) k p h = (xor_lt 8 x (octet_ahead k p) h.0 (mod-lt (iterate (k + 8) step p) (pow_pos 8)), masked-octets xs (k + 8) p h.1)

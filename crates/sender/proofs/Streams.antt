@@ -1,7 +1,7 @@
 -- The laws of sent streams.
 use Rattle.std.proofs.Common.{◌≡◌, ℕ, suc, ◌+◌, ◌*◌, ◌%◌, ◌^◌, ◌<◌, Bool, true, false, cond, T, eqb, List, [], ◌∷◌, ◌++◌, length, sym, refl, ap, ◌∙◌, subst, ap₂, add-zero, mod-lt, mod-eq_of_lt, zero-add, arith, lit<, eqb→eq}
 use native.Mathlib.Nat.{mod-add-mod}
-use Rattle.std.specs.List.{AllByRecursion as All}
+use Rattle.std.specs.List.{AllByRecursion}
 use Rattle.cell.specs.Sorting.{header_of}
 use Rattle.cell.specs.declared.header.Kind.{Kind}
 use Rattle.cell.specs.declared.header.Kind.TheVariants.{F3}
@@ -57,7 +57,7 @@ f3_only true w e = refl
 f3_only false [] e = absurd (let z : ◌≡◌ {A = ℕ} 0 1 = cc in omega arith)
 f3_only false (c ∷ w) e = absurd (let z : ◌≡◌ {A = ℕ} 0 1 = cc in omega arith)
 
-header_lt : (t : Bool) (f : List ℕ) (w : List Cell) → All cells.User w
+header_lt : (t : Bool) (f : List ℕ) (w : List Cell) → AllByRecursion cells.User w
     → (cond t (record { header = 0x00000009; payload = f }) (waiting_cell w)).header < 2 ^ 32
 header_lt true f w us = lit< tt
 header_lt false f [] us = lit< tt

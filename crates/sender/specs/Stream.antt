@@ -11,7 +11,7 @@
 --   header_on line   the header on the line in the first five of its octets
 --   StreamLaws       what holds of every sent stream and of each of its cells
 use Rattle.std.specs.Prelude.{◌≡◌, ℕ, ◌*◌, ◌%◌, ◌^◌, ◌<◌, List, [], ◌∷◌, ◌++◌, length, slice_index}
-use Rattle.std.specs.List.{AllByRecursion as All}
+use Rattle.std.specs.List.{AllByRecursion}
 use Rattle.cell.specs.Sorting.{header_of}
 use Rattle.cell.specs.declared.header.Kind.{Kind}
 use Rattle.cell.specs.declared.header.Kind.TheVariants.{Idle, F3, User}
@@ -30,7 +30,7 @@ pub record Send : Type 0 where
   pub left : List Cell
 
 pub record Sent (s : SenderState) (x : Send) (s' : SenderState) : Type 0 where
-  pub users : All cells.User x.waiting
+  pub users : AllByRecursion cells.User x.waiting
   pub cell : x.cell ≡ cell_sent s x.waiting
   pub sends : Sends s x.waiting x.kind x.line s' x.left
 

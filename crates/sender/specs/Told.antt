@@ -10,7 +10,7 @@
 --   F3Why f e              why the F3 payload f is refused with e
 --   F3Answer s f r s'      what setting the F3 payload f answers, and the sender after it
 use Rattle.std.specs.Prelude.{◌≡◌, ℕ, ◌^◌, ◌<◌, List, [], length, Result, IfOk, MatchResult, ◌≢◌}
-use Rattle.std.specs.List.{AllByRecursion as All}
+use Rattle.std.specs.List.{AllByRecursion}
 use Rattle.cell.specs.Header.{kind_number}
 use Rattle.cell.specs.Refusal.{number_of}
 use Rattle.cell.specs.declared.header.Kind.{Kind}
@@ -21,7 +21,7 @@ use Rattle.ports.specs.Cell.{Cell}
 use Rattle.sender.specs.Sender.{SenderState, cell_sent}
 
 abbrev pub Octets : ℕ → List ℕ → Type 0
-Octets n xs = (length xs ≡ n) × All (λ x. x < 2 ^ 8) xs
+Octets n xs = (length xs ≡ n) × AllByRecursion (λ x. x < 2 ^ 8) xs
 
 -- ---- a send
 

@@ -10,7 +10,6 @@ use blocks::block_source::BlockSource;
 use cell::header::Header;
 use line::Line;
 use ports::source::CountedSource;
-use std::alloc::Global;
 use std::io::{BufWriter, Read, Write};
 use std::process::ExitCode;
 use std::{env, io};

@@ -1,5 +1,5 @@
 -- Words read two by two. The octets of a word x are f x.
-use Rattle.std.proofs.Common.{◌≡◌, ℕ, ◌+◌, ◌-◌, ◌<◌, ◌≤◌, List, [], ◌∷◌, map, length, get_or, take, drop, Ok, Err, Result, sym, refl, ap, ◌∙◌, arith}
+use Rattle.std.proofs.Common.{◌≡◌, ℕ, ◌+◌, ◌-◌, ◌<◌, ◌≤◌, List, [], ◌∷◌, map, length, get_or, take, drop, Ok, Err, Result, refl, ap, ◌∙◌, arith}
 use Rattle.std.proofs.lemmas.List.{take_rest}
 use Rattle.send.specs.Arguments.{taken, alone, read_from}
 use Rattle.send.specs.declared.arguments.Fault.{Fault}
@@ -18,21 +18,21 @@ module _ {X : Type 0} (f : X → List ℕ) (g : Given) (at : ℕ) where
 
   pub read_one : (words : List X) (x : X) (e : Why) → 1 ≤ length words → length words < 2 → x ≡ get_or words 0 x → e ≡ alone (f x) → Err (record { at = at; why = e }) ≡ read_from g at (map f words)
   unfolding read_from
-  read_one [] x e some few at-0 why = absurd (omega arith)
-  read_one (a ∷ []) x e some few at-0 why = ap (λ w. Err (record { at = at; why = w })) (why ∙ ap (λ y. alone (f y)) at-0)
-  read_one (a ∷ b ∷ words) x e some few at-0 why = absurd (omega arith)
+  read_one [] x e some few at_0 why = absurd (omega arith)
+  read_one (a ∷ []) x e some few at_0 why = ap (λ w. Err (record { at = at; why = w })) (why ∙ ap (λ y. alone (f y)) at_0)
+  read_one (a ∷ b ∷ words) x e some few at_0 why = absurd (omega arith)
 
   read_two : (words : List X) (x y : X) (name value : List ℕ) → 2 ≤ length words → x ≡ get_or words 0 x → y ≡ get_or words 1 y → name ≡ f x → value ≡ f y → onwards at (map f (drop 2 words)) (taken g name value) ≡ read_from g at (map f words)
   unfolding read_from
-  read_two [] x y name value some at-0 at_1 of-x of-y = absurd (omega arith)
-  read_two (a ∷ []) x y name value some at-0 at_1 of-x of-y = absurd (omega arith)
-  read_two (a ∷ b ∷ words) x y name value some at-0 at_1 of-x of-y =
-      ap (λ n. onwards at (map f words) (taken g n value)) (of-x ∙ ap f at-0) ∙ ap (λ v. onwards at (map f words) (taken g (f a) v)) (of-y ∙ ap f at_1)
+  read_two [] x y name value some at_0 at_1 of-x of-y = absurd (omega arith)
+  read_two (a ∷ []) x y name value some at_0 at_1 of-x of-y = absurd (omega arith)
+  read_two (a ∷ b ∷ words) x y name value some at_0 at_1 of-x of-y =
+      ap (λ n. onwards at (map f words) (taken g n value)) (of-x ∙ ap f at_0) ∙ ap (λ v. onwards at (map f words) (taken g (f a) v)) (of-y ∙ ap f at_1)
 
   pub read_on : (words : List X) (x y : X) (name value : List ℕ) (g' : Given) → 2 ≤ length words → x ≡ get_or words 0 x → y ≡ get_or words 1 y → name ≡ f x → value ≡ f y → Ok g' ≡ taken g name value → read_from g' (at + 2) (map f (take (length words - 2) (drop 2 words))) ≡ read_from g at (map f words)
-  read_on words x y name value g' some at-0 at_1 of-x of-y e =
-      ap (λ ws. read_from g' (at + 2) (map f ws)) (take_rest words 2) ∙ ap (onwards at (map f (drop 2 words))) e ∙ read_two words x y name value some at-0 at_1 of-x of-y
+  read_on words x y name value g' some at_0 at_1 of-x of-y e =
+      ap (λ ws. read_from g' (at + 2) (map f ws)) (take_rest words 2) ∙ ap (onwards at (map f (drop 2 words))) e ∙ read_two words x y name value some at_0 at_1 of-x of-y
 
   pub read_fault : (words : List X) (x y : X) (name value : List ℕ) (e : Why) → 2 ≤ length words → x ≡ get_or words 0 x → y ≡ get_or words 1 y → name ≡ f x → value ≡ f y → Err e ≡ taken g name value → Err (record { at = at; why = e }) ≡ read_from g at (map f words)
-  read_fault words x y name value e some at-0 at_1 of-x of-y is =
-      ap (onwards at (map f (drop 2 words))) is ∙ read_two words x y name value some at-0 at_1 of-x of-y
+  read_fault words x y name value e some at_0 at_1 of-x of-y is =
+      ap (onwards at (map f (drop 2 words))) is ∙ read_two words x y name value some at_0 at_1 of-x of-y

@@ -63,11 +63,11 @@ header_lt true f w us = lit< tt
 header_lt false f [] us = lit< tt
 header_lt false f (c ∷ w) us = us.0.fits
 
-taken_by_lem : (t : Bool) (f : Cell) (w : List Cell) (kind : Kind) (cell : Cell) (left : List Cell)
+taken_by : (t : Bool) (f : Cell) (w : List Cell) (kind : Kind) (cell : Cell) (left : List Cell)
     → kind ≡ cond t F3 (waiting_kind w) → cell ≡ cond t f (waiting_cell w) → left ≡ cond t w (rest w) → w ≡ lost_to kind cell ++ left
-taken_by_lem true f w kind cell left k c l = sym (ap₂ (λ (a : Kind) (b : List Cell). lost_to a cell ++ b) k l)
-taken_by_lem false f [] kind cell left k c l = sym (ap₂ (λ (a : Kind) (b : List Cell). lost_to a cell ++ b) k l)
-taken_by_lem false f (d ∷ w) kind cell left k c l =
+taken_by true f w kind cell left k c l = sym (ap₂ (λ (a : Kind) (b : List Cell). lost_to a cell ++ b) k l)
+taken_by false f [] kind cell left k c l = sym (ap₂ (λ (a : Kind) (b : List Cell). lost_to a cell ++ b) k l)
+taken_by false f (d ∷ w) kind cell left k c l =
     sym (ap₂ (λ (a : Kind) (b : List Cell). lost_to a cell ++ b) k l ∙ ap (λ (e : Cell). e ∷ w) c)
 
 module _ (p : ℕ) (front : List Send) (x : Send) (b : SenderState) (next : SenderState) (sent : Sent b x next)
@@ -92,7 +92,7 @@ module _ (p : ℕ) (front : List Send) (x : Send) (b : SenderState) (next : Send
           λ e. sent.sends.sort ∙ ap (λ (n : ℕ). cond (eqb n 0) F3 (waiting_kind x.waiting)) (number ∙ e),
         );
         header = subst (λ (l : LineHeader). CarriesSamples l q) (sym on) (carries_samples x.cell.header q);
-        taken = taken_by_lem (eqb b.number 0) (f3_cell b) x.waiting x.kind x.cell x.left sent.sends.sort sent.cell sent.sends.left;
+        taken = taken_by (eqb b.number 0) (f3_cell b) x.waiting x.kind x.cell x.left sent.sends.sort sent.cell sent.sends.left;
       }
 
 pub stream_laws : StreamLaws

@@ -1,4 +1,4 @@
-use Rattle.std.proofs.Common.{◌≡◌, ◌<◌, ◌≤◌, length, string_bytes, ap, ◌∙◌, rules}
+use Rattle.std.proofs.Common.{◌<◌, ◌≤◌, length, string_bytes, ap, ◌∙◌, rules}
 use Rattle.send.specs.Arguments.{alone}
 use Rattle.send.proofs.Pairs.{read_none, read_one, read_on, read_fault}
 use Rattle.send.proofs.arguments.+read.Goals as goal

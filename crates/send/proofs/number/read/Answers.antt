@@ -1,4 +1,4 @@
-use Rattle.std.proofs.Common.{◌≡◌, cond, drop, ap, ◌∙◌}
+use Rattle.std.proofs.Common.{cond, drop, ap, ◌∙◌}
 use Rattle.std.proofs.lemmas.List.{take_rest}
 use Rattle.send.specs.Number.{value_of}
 use Rattle.send.proofs.number.read.Goals as goal

@@ -1,4 +1,4 @@
-use Rattle.std.proofs.Common.{◌≡◌, ◌+◌, get_or, drop, sym, ◌∙◌}
+use Rattle.std.proofs.Common.{◌+◌, get_or, drop, sym, ◌∙◌}
 use Rattle.std.proofs.lemmas.List.{at_drop_more, at_drop_all}
 use Rattle.send.specs.Number.{value_from}
 use Rattle.send.proofs.Digits.{value_on, value_stops, value_ends}

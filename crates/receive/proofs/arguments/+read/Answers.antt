@@ -12,12 +12,12 @@ pub returns-in-Ok : goal.returns-in-Ok
 returns-in-Ok t c =
     let words = c.args.words.now in
     let some : 1 ≤ length words = search rules in
-    read_on string_bytes c.args.given c.args.at words c.word-item.result c.as-str.result.now c.in-Ok.given _
-    some c.word-item.is c.as-str.ensures.value c.in-Ok.ensures c.read.ensures
+    read_on string_bytes c.args.given c.args.at words c.word-item.result c.as_str.result.now c.in-Ok.given _
+    some c.word-item.is c.as_str.ensures.value c.in-Ok.ensures c.read.ensures
 
 pub returns-in-Err : goal.returns-in-Err
 returns-in-Err t c =
     let words = c.args.words.now in
     let some : 1 ≤ length words = search rules in
-    read_fault string_bytes c.args.given c.args.at words c.word-item.result c.as-str.result.now c.in-Err.why
-    some c.word-item.is c.as-str.ensures.value c.in-Err.ensures
+    read_fault string_bytes c.args.given c.args.at words c.word-item.result c.as_str.result.now c.in-Err.why
+    some c.word-item.is c.as_str.ensures.value c.in-Err.ensures

@@ -1,6 +1,6 @@
 -- Blanks in a text, and texts that spell numbers.
-use Rattle.std.proofs.Common.{◌≡◌, ℕ, zero, suc, ◌+◌, ◌<◌, Bool, true, false, cond, eqb, List, [], ◌∷◌, drop, IsUtf8, IsAscii, refl, ap, subst, arith, rules}
-use Rattle.std.specs.Str.Parse.{without_leading_plus, AllDigits}
+use Rattle.std.proofs.Common.{◌≡◌, ℕ, zero, suc, Bool, true, false, cond, eqb, List, [], ◌∷◌, drop, IsUtf8, IsAscii, refl, ap, rules}
+use Rattle.std.specs.Str.Parse.{without_leading_plus}
 use Rattle.std.proofs.lemmas.Fmt.{IsAscii-from_digits}
 use Rattle.std.proofs.lemmas.Str.{IsUtf8-from_ascii}
 use Rattle.receiver_vectors.specs.Words.{before_blank, SpellsNumber}

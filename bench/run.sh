@@ -10,7 +10,9 @@ runs=3
 made=target/bench
 mkdir -p "$made"
 
-rt check send receive
+for program in send receive; do
+    (cd "crates/$program" && rt check > /dev/null && rt run < /dev/null > /dev/null 2>&1)
+done
 rustc -O --edition 2021 -o "$made/baseline" bench/baseline.rs
 
 python3 -c "
@@ -18,7 +20,7 @@ import random, sys
 count = int(sys.argv[1])
 sys.stdout.buffer.write(random.Random(34).getrandbits(8 * count).to_bytes(count, 'big'))
 " "$octets" > "$made/block"
-target/bin/send < "$made/block" > "$made/line"
+crates/send/out/send < "$made/block" > "$made/line"
 
 # best LINE OUT COMMAND...: the best of some runs of a command from one file to another, in line bits a second
 best() {
@@ -37,7 +39,7 @@ print(f'{bits / min(seconds) / 1e6:.0f} Mbit/s, the best of {runs} runs ({min(se
 }
 
 printf 'receive:  '
-best "$made/line" "$made/received" target/bin/receive --payloads
+best "$made/line" "$made/received" crates/receive/out/receive --payloads
 printf 'baseline: '
 best "$made/line" "$made/expected" "$made/baseline"
 

@@ -14,6 +14,7 @@ use receiver::event::EventRecord;
 use receiver::feeding::MOST_OCTETS;
 use ring::ring::Ring;
 use std::io::{BufWriter, ErrorKind, Read, Write};
+use std::process::ExitCode;
 use std::{env, io};
 
 mod arguments;
@@ -40,11 +41,11 @@ const USAGE: &str = "usage: receive [--payloads] [--events] < line > cells
   --payloads   only the 48 payload octets of each cell are written, without the 4 of its header
   --events     each event is listed on standard error";
 
-fn main(rt: HostRuntime) -> anyhow::Result<()> {
+fn main(rt: HostRuntime) -> anyhow::Result<ExitCode> {
     run(&rt)
 }
 
-fn run(rt: &HostRuntime) -> anyhow::Result<()> {
+fn run(rt: &HostRuntime) -> anyhow::Result<ExitCode> {
     let words = words(rt)?;
     let arguments = match Arguments::parse(&words) {
         Ok(arguments) => arguments,
@@ -63,7 +64,7 @@ fn run(rt: &HostRuntime) -> anyhow::Result<()> {
         &mut Ring::new(&mut events),
     )?;
     rt.eprintln(line.summary())?;
-    Ok(())
+    Ok(ExitCode::SUCCESS)
 }
 
 // The arguments without the program's name.
@@ -81,15 +82,17 @@ fn words(rt: &HostRuntime) -> anyhow::Result<Vec<String>> {
     }
 }
 
-// Says which word is refused, and why.
-fn refuse(rt: &HostRuntime, words: &[String], fault: Fault) -> anyhow::Result<()> {
+// Says which word is refused, and why. It prints the word itself, since an error that `main` returns would hold only the first of a
+// long one.
+fn refuse(rt: &HostRuntime, words: &[String], fault: Fault) -> anyhow::Result<ExitCode> {
     rt.eprintln(USAGE)?;
     let why = fault.why;
     let word = match words.get(fault.at) {
         Some(word) => word.as_str(),
         None => "",
     };
-    Err(anyhow!(format!(in rt.alloc(); "{why}: {word}")?))
+    eprintln!(rt; "Error: {why}: {word}")?;
+    Ok(ExitCode::FAILURE)
 }
 
 // Feeds standard input to the line until it ends, and writes out what each feed brings.

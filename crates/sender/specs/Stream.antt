@@ -1,5 +1,5 @@
--- A sent stream: what one sender's accepted sends write from one accepted start to any next one. Making a sender counts as a start
--- at phase 1. Another source may be lent to each send.
+-- A sent stream: what one sender's accepted sends write from one accepted start to any next one, where no F3 payload is set between
+-- them. Making a sender counts as a start at phase 1. Another source may be lent to each send.
 --
 --   Send             one accepted send: the cells that waited in the source lent to it, the cell that went out, its kind, the 53
 --                    octets that were written, and the cells that wait after it

@@ -1,4 +1,4 @@
-// Starting, and sending a cell.
+// Starting, setting the F3 payload, and sending a cell.
 ghost use Rattle.std.specs.Prelude.{◌≡◌, ◌++◌, length, drop};
 ghost use Rattle.ports.specs.Cell.{header_octets, octets};
 ghost use Rattle.scrambler.specs.Coding.{coded};

@@ -1,4 +1,4 @@
-// Lower-case hexadecimal digits: two to an octet, eight to a word.
+// Lower-case hexadecimal digits: two to an octet, eight to a word. The kit's crate hex would take capitals too.
 ghost use Rattle.std.specs.Prelude.{◌≡◌, ℕ, List, IfOk, MatchOption};
 ghost use Rattle.hex_digits.specs.Digits.{digit_of, octet_of, word_of, SpellsOctets};
 
@@ -8,15 +8,10 @@ use std::alloc::{AllocError, Global};
 pub fn word(text: &[u8]) -> Option<u32>
     ensures { result ≡ word_of text.now }
 {
-    let [a, b, c, d, e, f, g, h] = text else {
+    let &[a, b, c, d, e, f, g, h] = text else {
         return None;
     };
-    let octets = [
-        octet(*a, *b)?,
-        octet(*c, *d)?,
-        octet(*e, *f)?,
-        octet(*g, *h)?,
-    ];
+    let octets = [octet(a, b)?, octet(c, d)?, octet(e, f)?, octet(g, h)?];
     Some(u32::from_be_bytes(octets))
 }
 
@@ -24,15 +19,15 @@ pub fn word(text: &[u8]) -> Option<u32>
 pub fn octets(heap: Global, text: &[u8]) -> Result<Option<Vec<u8>>, AllocError>
     ensures { IfOk result (λ o. MatchOption o ((xs : List ℕ) → SpellsOctets text.now xs → ⊥) (λ v. SpellsOctets text.now v.items)) }
 {
-    if text.len() % 2 != 0 {
+    let (pairs, []) = text.as_chunks::<2>() else {
         return Ok(None);
-    }
+    };
     let mut octets = Vec::new(heap);
-    for i in 0..text.len() / 2 {
-        match octet(text[2 * i], text[2 * i + 1]) {
-            Some(x) => octets.push(x)?,
-            None => return Ok(None),
-        }
+    for &[high, low] in pairs {
+        let Some(octet) = octet(high, low) else {
+            return Ok(None);
+        };
+        octets.push(octet)?;
     }
     Ok(Some(octets))
 }

@@ -1,16 +1,25 @@
-use Rattle.std.proofs.Common.{◌≡◌, ℕ, ◌<◌, get_or, Some, vec_items, vec_len, sym, refl, ap, ◌∙◌, arith, rules, below_more}
+use Rattle.std.proofs.Common.{◌≡◌, Some, None, length, ◌/◌, ◌∙◌, ◌<◌, arith}
+use Rattle.std.proofs.lemmas.Grind.{common_steps}
+use Rattle.hex_digits.specs.Digits.{octet_at}
+use Rattle.hex_digits.proofs.Pairs.{octet_of_pair, told_more}
 use Rattle.hex_digits.proofs.digits.octets.Goals as goal
 
-pub loop-i-preserved : goal.loop-i-preserved
-loop-i-preserved c =
-    let here : vec_len c.loop-i.octets ≡ c.loop-i.i = c.loop-i.invariant.0 in
-    let last : get_or (vec_items c.push.new.self) (vec_len c.loop-i.octets) 0 ≡ c.in-Some.x =
-    c.in_ok-push-in-Some.ensures.by_index.1 0 refl in (
-      search rules,
-      below_more _ _
-          (λ k h.
-          let low : k < vec_len c.loop-i.octets = omega (arith, here, h) in
-          c.loop-i.invariant.1 k h ∙ ap Some (sym (c.push.ensures.by_index.0 k 0 low)))
-          (sym c.in-Some.ensures
-          ∙ ap Some (sym (ap (λ (n : ℕ). get_or (vec_items c.push.new.self) n 0) (sym here) ∙ last))),
+pub returns-in_default-octet : goal.returns-in_default-octet
+returns-in_default-octet c =
+    let text = c.args.text.now in
+    let here : None ≡ octet_at text c.loop-high.high-index =
+    c.in_default-octet.ensures ∙ rw c.as_chunks.ensures.front (octet_of_pair text (length text / 2) c.loop-high.high-index (omega arith)) in
+    λ xs t.
+    let within : c.loop-high.high-index < length xs = omega (arith, t.len) in
+    let said = t.each c.loop-high.high-index within in
+    (cc)
+
+pub loop-high-preserved : goal.loop-high-preserved
+loop-high-preserved c =
+    let text = c.args.text.now in
+    let here : Some c.in-Some.octet ≡ octet_at text c.loop-high.high-index =
+    c.in-Some.ensures ∙ rw c.as_chunks.ensures.front (octet_of_pair text (length text / 2) c.loop-high.high-index (omega arith)) in
+    rw c.in_ok-push.ensures.items (
+      grind (arith, common_steps),
+      told_more (octet_at text) c.loop-high.octets.items c.in-Some.octet c.loop-high.invariant.1 (rw c.loop-high.invariant.0 here),
     )

@@ -1,8 +1,8 @@
-use Rattle.std.proofs.Common.{◌≡◌, ℕ, ◌<◌, get_or, Some, vec_items, vec_len}
+use Rattle.std.proofs.Common.{◌≡◌, ℕ, ◌<◌, get_or, Some, length}
 use Rattle.hex_digits.specs.Digits.{octet_at}
 use Rattle.hex_digits.proofs.digits.octets.Given as goal
 
-abbrev pub invariant-loop-i : goal.invariant-loop-i
-invariant-loop-i l =
-    (vec_len l.octets ≡ l.i)
-    × ((k : ℕ) → k < l.i → octet_at l.text k ≡ Some (get_or (vec_items l.octets) k 0))
+abbrev pub invariant-loop-high : goal.invariant-loop-high
+invariant-loop-high l =
+    (length l.octets.items ≡ l.high-index)
+    × ((k : ℕ) → k < length l.octets.items → octet_at l.text k ≡ Some (get_or l.octets.items k 0))

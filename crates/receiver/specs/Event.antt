@@ -2,7 +2,9 @@
 --
 --   event_numbers e  the numbers of the layer and of the cause of the event e
 --   record_of n e    the event e as a ring holds it, where n is the number of the last bit seen
-use Rattle.std.specs.Prelude.{ℕ}
+--   Undoes x r       r is the one event that has the numbers of the record x, or an error where no event has them
+--   event_words e    the event e in words
+use Rattle.std.specs.Prelude.{◌≡◌, ℕ, List, Ok, Result, codes}
 use Rattle.tracker.specs.declared.events.HeaderCause.TheVariants.{Mended, Discarded}
 use Rattle.tracker.specs.declared.events.BoundaryCause.TheVariants as boundary
 use Rattle.tracker.specs.declared.events.DescramblerCause.TheVariants as descrambler
@@ -10,6 +12,7 @@ use Rattle.receiver.specs.declared.event.SinkCause.TheVariants as sink
 use Rattle.receiver.specs.declared.event.Event.{Event}
 use Rattle.receiver.specs.declared.event.Event.TheVariants.{Header, Boundary, Descrambler, Sink}
 use Rattle.receiver.specs.declared.event.EventRecord.{EventRecord}
+use Rattle.receiver.specs.declared.event.UnknownEvent.{UnknownEvent}
 
 abbrev pub event_numbers : Event → ℕ × ℕ
 event_numbers (Header Mended) = (1, 1)
@@ -26,3 +29,20 @@ event_numbers (Sink sink.NotServed) = (4, 2)
 
 abbrev pub record_of : ℕ → Event → EventRecord
 record_of n e = record { bit = n; layer = (event_numbers e).0; cause = (event_numbers e).1 }
+
+pub record Undoes (x : EventRecord) (r : Result Event UnknownEvent) : Type 0 where
+  pub found : (e : Event) → event_numbers e ≡ (x.layer, x.cause) → r ≡ Ok e
+  pub right : (e : Event) → r ≡ Ok e → event_numbers e ≡ (x.layer, x.cause)
+
+abbrev pub event_words : Event → List ℕ
+event_words (Header Mended) = codes "header: mended"
+event_words (Header Discarded) = codes "header: discarded"
+event_words (Boundary boundary.Presync) = codes "boundary: PRESYNC"
+event_words (Boundary boundary.Sync) = codes "boundary: SYNC"
+event_words (Boundary boundary.LostFromPresync) = codes "boundary: lost from PRESYNC"
+event_words (Boundary boundary.LostFromSync) = codes "boundary: lost from SYNC"
+event_words (Descrambler descrambler.Verification) = codes "descrambler: verification"
+event_words (Descrambler descrambler.Steady) = codes "descrambler: steady state"
+event_words (Descrambler descrambler.LeftForAcquisition) = codes "descrambler: back to acquisition"
+event_words (Sink sink.Full) = codes "sink: full"
+event_words (Sink sink.NotServed) = codes "sink: not served"

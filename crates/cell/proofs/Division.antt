@@ -1,7 +1,8 @@
 -- Long division by the divisor: it is linear, it finds the one remainder, and it may go octet by octet.
-use Rattle.std.proofs.Common.{◌≡◌, ℕ, zero, suc, ◌+◌, ◌*◌, ◌/◌, ◌%◌, ◌^◌, ◌<◌, T, List, [], ◌∷◌, get_or, sym, ap, ◌∙◌, subst, ap₂, mod-lt, div-one, pow_pos}
+use Rattle.std.proofs.Common.{◌≡◌, ℕ, zero, suc, refl, arith, ◌+◌, ◌*◌, ◌/◌, ◌%◌, ◌^◌, ◌<◌, T, List, [], ◌∷◌, get_or, sym, ap, ◌∙◌, subst, ap₂, mod-lt, div-one, pow_pos}
 use lib.Bits.{bit_xor, bit_and}
 use Rattle.cell.specs.Linear.{Linear}
+use Rattle.cell.specs.CheckOctet.{check_octet, LeavesCheckOctet}
 use Rattle.cell.specs.Polynomial.{divisor, coefficient, product, remainder, Division, TheRemainder}
 use Rattle.cell.proofs.Linear.{lin_id, lin_zero_word, lin_xor, lin_comp, lin_shr, lin_shl, lin_mod, lin_bit, lin_and, agree, basis}
 
@@ -153,3 +154,12 @@ by_octets h l b e e1 e2 e3 e4 =
     let f2 = e2 ∙ ap₂ on f1 (at 1) in
     let f3 = e3 ∙ ap₂ on f2 (at 2) in
     e4 ∙ ap₂ on f3 (at 3 ∙ ap (λ (x : ℕ). x % 2 ^ 8) (sym (div-one h))) ∙ four_is h b
+
+pub octets_leave : (h r1 r2 r3 r4 : ℕ) → h < 2 ^ 32
+    → r1 ≡ remainder 8 (h / 2 ^ 24 % 2 ^ 8 * 2 ^ 8) → r2 ≡ remainder 8 (bit_xor r1 (h / 2 ^ 16 % 2 ^ 8) * 2 ^ 8)
+    → r3 ≡ remainder 8 (bit_xor r2 (h / 2 ^ 8 % 2 ^ 8) * 2 ^ 8) → r4 ≡ remainder 8 (bit_xor r3 (h % 2 ^ 8) * 2 ^ 8)
+    → r4 ≡ remainder 32 (h * 2 ^ 8)
+octets_leave h r1 r2 r3 r4 b e1 e2 e3 e4 = by_octets h _ b refl e1 e2 e3 e4
+
+pub leaves_check_octet : (h c : ℕ) → h < 2 ^ 32 → c ≡ check_octet h → LeavesCheckOctet h c
+leaves_check_octet h c b e = record { rest = remainder 32 (h * 2 ^ 8); only = the_remainder (h * 2 ^ 8) (omega arith); added = e }

@@ -1,11 +1,13 @@
 -- What wrong bits do to a syndrome, and that turning a wrong bit again restores what was sent.
-use Rattle.std.proofs.Common.{◌≡◌, ℕ, ◌*◌, ◌/◌, ◌%◌, ◌^◌, ◌<◌, sym, ap, ◌∙◌, ap₂, lt_of_le_of_lt, lit<}
+use Rattle.std.proofs.Common.{◌≡◌, ℕ, ◌*◌, ◌/◌, ◌%◌, ◌^◌, ◌<◌, ◌≢◌, sym, ap, ◌∙◌, ap₂, lt_of_le_of_lt, lit<}
 use lib.Bits.{bit_xor, xor_assoc, xor_comm, xor_self, xor_lt, xor_zero_r, xor_zero_l}
 use lib.Pow.{shr_le, high, low, recompose}
 use Rattle.cell.specs.Polynomial.{remainder}
 use Rattle.cell.specs.CheckOctet.{syndrome}
 use Rattle.cell.specs.Verdict.{place, error_at, verdict_of}
-use Rattle.cell.specs.LineHeader.{bits40, of_bits, turned, Codeword, OneTold, TwoPast, Restored}
+use Rattle.cell.specs.LineHeader.{bits40, of_bits, syndrome_of, turned, Codeword, OneTold, TwoPast, Restored}
+use Rattle.cell.specs.declared.verdict.Verdict.{Verdict}
+use Rattle.cell.specs.declared.verdict.Verdict.TheVariants.{OneWrongBit, PastMending}
 use Rattle.cell.specs.declared.line_header.LineHeader.{LineHeader}
 use Rattle.cell.proofs.Linear.{lin_id, lin_xor, lin_comp, lin_shr, lin_shl, lin_mod, basis}
 use Rattle.cell.proofs.Division.{lin_remainder}
@@ -60,6 +62,13 @@ module _ (l : LineHeader) (h : l.hec < 2 ^ 8) where
       ∙ lin_remainder 32 (place i) (place j) in
       (verdict_rule (syndrome l.header.0 l.hec)).past.1
       ((λ z. (two_none i j b c apart).0 (sym is ∙ z)), λ k d z. (two_none i j b c apart).1 k d (sym is ∙ z))
+
+-- the same, as the code has it
+pub told : (l : LineHeader) (v : Verdict) (w i : ℕ) → v ≡ verdict_of (syndrome_of l) → l.hec < 2 ^ 8 → Codeword w → i < 40 → bits40 l ≡ turned w i → v ≡ OneWrongBit i
+told l v w i e h r b x = e ∙ one_told l h w i r b x
+
+pub past : (l : LineHeader) (v : Verdict) (w i j : ℕ) → v ≡ verdict_of (syndrome_of l) → l.hec < 2 ^ 8 → Codeword w → i < 40 → j < 40 → (i ≢ j) → bits40 l ≡ turned (turned w i) j → v ≡ PastMending
+past l v w i j e h r b c apart x = e ∙ two_past l h w i j r b c apart x
 
 pub turned_twice : (w i : ℕ) → turned (turned w i) i ≡ w
 turned_twice w i = xor_assoc w (place i) (place i) ∙ ap (bit_xor w) (xor_self (place i)) ∙ xor_zero_r w

@@ -1,30 +1,21 @@
 -- Sorting the octets of a cell: four of the header, the most significant first, and 48 of the payload.
 --
---   header_of xs        the header that the first four octets write
---   header_octets h     the four octets of a header
 --   PartFrom s n p      the slice p is the very part of the slice s that begins at octet n: it lies in the same block of memory,
 --                       n octets on, and holds what s holds from there
 --   NoCell s e          the slice s is refused with 4, since it has not 52 octets
 --   SortsAs s c         c is the kind of the cell in s, with its header and payload
 --   SortsPartsAs h p c  the same of a cell with the header h and the payload p, which c has for its own
 --   Sorts s r           what sorting the slice s answers, also where it is refused
---   Cuts s r            the same of telling header and payload apart
-use Rattle.std.specs.Prelude.{◌≡◌, ℕ, ◌+◌, ◌*◌, ◌/◌, ◌%◌, ◌^◌, List, [], ◌∷◌, length, drop, Ok, Err, Result, ◌≢◌, slice_index}
+use Rattle.std.specs.Prelude.{◌≡◌, ℕ, ◌+◌, List, length, drop, Ok, Err, Result, ◌≢◌}
 use Rattle.std.specs.Borrow.{Bor}
 use Rattle.cell.specs.Header.{kind_of}
+pub use Rattle.cell.specs.Header.{header_of, header_octets}
 use Rattle.cell.specs.Refusal.{number_of}
 use Rattle.cell.specs.declared.header.Kind as kinds
 use Rattle.cell.specs.declared.refusal.Refusal.{Refusal}
 use Rattle.cell.specs.declared.refusal.Refusal.TheVariants.{WrongLength}
 use Rattle.cell.specs.declared.sorting.SortedCell.{SortedCell}
 use Rattle.cell.specs.declared.sorting.SortedCell.TheVariants.{Idle, F3, User}
-use Rattle.cell.specs.declared.sorting.Parts.{Parts}
-
-abbrev pub header_of : List ℕ → ℕ
-header_of xs = slice_index xs 0 * 2 ^ 24 + slice_index xs 1 * 2 ^ 16 + slice_index xs 2 * 2 ^ 8 + slice_index xs 3
-
-abbrev pub header_octets : ℕ → List ℕ
-header_octets h = h / 2 ^ 24 % 2 ^ 8 ∷ h / 2 ^ 16 % 2 ^ 8 ∷ h / 2 ^ 8 % 2 ^ 8 ∷ h % 2 ^ 8 ∷ []
 
 abbrev pub PartFrom : Bor (List ℕ) → ℕ → Bor (List ℕ) → Type 0
 PartFrom s n p = (p.ref_ptr.0 ≡ s.ref_ptr.0) × (p.ref_ptr.1 ≡ s.ref_ptr.1 + n) × (p.now ≡ drop n s.now)
@@ -45,7 +36,3 @@ SortsPartsAs h p (User k q) = (kind_of h ≡ kinds.TheVariants.User) × (k.0 ≡
 abbrev pub Sorts : Bor (List ℕ) → Result SortedCell Refusal → Type 0
 Sorts s (Ok c) = (length s.now ≡ 52) × SortsAs s c
 Sorts s (Err e) = NoCell s e
-
-abbrev pub Cuts : Bor (List ℕ) → Result Parts Refusal → Type 0
-Cuts s (Ok c) = (length s.now ≡ 52) × (c.header.0 ≡ header_of s.now) × PartFrom s 4 c.payload
-Cuts s (Err e) = NoCell s e

@@ -7,6 +7,7 @@
 --   Rule s v       v is the verdict on the syndrome s
 --   TwoErrors s v  where two different bits left the syndrome s, v is past mending
 --   verdict_of s   that verdict, found by trying the 40 bits (wrong_below n s: those below n)
+--   Judged s v     v is that verdict, it meets the rule, and two errors are past mending
 --   entry t s      the entry at s of a table t of verdicts
 use Rattle.std.specs.Prelude.{◌≡◌, ℕ, zero, suc, ◌/◌, ◌%◌, ◌^◌, ◌<◌, Bool, cond, List, ◌==◌, ◌≢◌, bit_xor, slice_index_or}
 use Rattle.cell.specs.Polynomial.{remainder}
@@ -40,6 +41,11 @@ wrong_below (suc n) s = cond (s == error_at n) (OneWrongBit n) (wrong_below n s)
 
 unfoldable pub verdict_of : ℕ → Verdict
 verdict_of s = cond (s == 0) Clean (wrong_below 40 s)
+
+pub record Judged (s : ℕ) (v : Verdict) : Type 0 where
+  pub value : v ≡ verdict_of s
+  pub rule : Rule s v
+  pub two : TwoErrors s v
 
 unfoldable pub entry : List Verdict → ℕ → Verdict
 entry table s = slice_index_or table s Clean

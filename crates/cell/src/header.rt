@@ -1,13 +1,34 @@
-// The header of a cell: its fields, its connection and the kind of cell that it heads.
-ghost use Rattle.std.specs.Prelude.{◌≡◌};
-ghost use Rattle.cell.specs.Header.{fields_of, joined, connection_of, kind_of, kind_number, reserved};
+// The header of a cell: its octets, its fields, its connection and the kind of cell that it heads.
+ghost use Rattle.std.specs.Prelude.{◌≡◌, Some};
+ghost use Rattle.cell.specs.Header.{header_of, header_octets, fields_of, joined, connection_of, kind_of, kind_name, kind_number, reserved};
+ghost use Rattle.std.specs.Fmt.{padded};
+
+use crate::sizes::HEADER_OCTETS;
+use std::fmt;
 
 // The 32 header bits of a cell, as a number from the top.
-#[derive(Clone, Copy, PartialEq, Eq, Drop)]
+#[derive(Clone, Copy, Debug, PartialEq, Eq, Hash)]
 pub struct Header(pub u32);
 
+// The header that four octets write, the most significant first.
+impl From<[u8; HEADER_OCTETS]> for Header {
+    ghost from_gives = { λ octets header. header.0 ≡ header_of octets };
+
+    fn from(octets: [u8; HEADER_OCTETS]) -> Header {
+        Header(u32::from_be_bytes(octets))
+    }
+}
+
+impl From<Header> for [u8; HEADER_OCTETS] {
+    ghost from_gives = { λ header octets. octets ≡ header_octets header.0 };
+
+    fn from(header: Header) -> [u8; HEADER_OCTETS] {
+        header.0.to_be_bytes()
+    }
+}
+
 // The fields of a header, from the top.
-#[derive(Clone, Copy, PartialEq, Eq, Drop)]
+#[derive(Clone, Copy, Debug, PartialEq, Eq, Hash)]
 pub struct Fields {
     // generic flow control, 4 bits
     pub gfc: u8,
@@ -21,15 +42,15 @@ pub struct Fields {
     pub clp: u8,
 }
 
-// What a cell is for, by its header alone.
-#[derive(Clone, Copy, PartialEq, Eq, Drop)]
+// What a cell is for, by its header alone. Each kind has the number by which a caller knows it.
+#[derive(Clone, Copy, Debug, PartialEq, Eq, Hash)]
 pub enum Kind {
     // fills the line where nothing waits
-    Idle,
+    Idle = 0,
     // maintenance of the transmission path
-    F3,
+    F3 = 1,
     // carries a user's payload
-    User,
+    User = 2,
 }
 
 impl Kind {
@@ -37,11 +58,21 @@ impl Kind {
     pub fn number(self) -> u8
         ensures { result ≡ kind_number self }
     {
-        match self {
-            Kind::Idle => 0,
-            Kind::F3 => 1,
-            Kind::User => 2,
-        }
+        self as u8
+    }
+}
+
+impl fmt::Display for Kind {
+    ghost output = { λ kind. Some (kind_name kind) };
+
+    ghost styled_output = { λ kind spec. Some (padded spec (kind_name kind)) };
+
+    fn fmt<W: fmt::Write>(&self, f: &mut fmt::Formatter<W>) -> fmt::Result {
+        f.pad(match self {
+            Kind::Idle => "idle",
+            Kind::F3 => "F3",
+            Kind::User => "user",
+        })
     }
 }
 
@@ -52,11 +83,19 @@ impl Header {
     pub const F3: Header = Header(0x0000_0009);
 
     // The five fields; joined from the top they are the header again.
+    #[tactic(auto, using(crate::proofs::Fields::joined_of))]
     pub fn fields(self) -> Fields
         ensures value { result ≡ fields_of self.0 }
         ensures whole { joined result ≡ self.0 }
     {
-        cut(self.0)
+        let Header(word) = self;
+        Fields {
+            gfc: (word >> 28) as u8,
+            vpi: ((word >> 20) % 0x100) as u8,
+            vci: ((word >> 4) % 0x1_0000) as u16,
+            pt: ((word >> 1) % 0x8) as u8,
+            clp: (word % 0x2) as u8,
+        }
     }
 
     // The number of the connection: VPI × 65,536 + VCI.
@@ -71,12 +110,10 @@ impl Header {
     pub fn kind(self) -> Kind
         ensures { result ≡ kind_of self.0 }
     {
-        if self.0 == Self::IDLE.0 {
-            Kind::Idle
-        } else if self.0 == Self::F3.0 {
-            Kind::F3
-        } else {
-            Kind::User
+        match self {
+            Self::IDLE => Kind::Idle,
+            Self::F3 => Kind::F3,
+            _ => Kind::User,
         }
     }
 
@@ -84,22 +121,6 @@ impl Header {
     pub fn is_reserved(self) -> bool
         ensures { result ≡ reserved self.0 }
     {
-        match self.kind() {
-            Kind::Idle | Kind::F3 => true,
-            Kind::User => false,
-        }
-    }
-}
-
-// The fields of 32 bits.
-fn cut(word: u32) -> Fields
-    ensures { result ≡ fields_of word }
-{
-    Fields {
-        gfc: (word >> 28) as u8,
-        vpi: ((word >> 20) % 0x100) as u8,
-        vci: ((word >> 4) % 0x1_0000) as u16,
-        pt: ((word >> 1) % 0x8) as u8,
-        clp: (word % 0x2) as u8,
+        matches!(self.kind(), Kind::Idle | Kind::F3)
     }
 }

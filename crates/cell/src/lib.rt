@@ -4,6 +4,7 @@
 pub mod check_octet;
 pub mod header;
 pub mod line_header;
+pub mod octets;
 pub mod refusal;
 pub mod sizes;
 pub mod sorting;

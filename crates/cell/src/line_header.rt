@@ -4,11 +4,12 @@ ghost use Rattle.cell.specs.LineHeader.{bits40, of_bits, syndrome_of, turned, On
 ghost use Rattle.cell.specs.Verdict.{verdict_of, place};
 
 use crate::header::Header;
-use crate::sizes::LINE_HEADER_BITS;
+use crate::sizes::{HEADER_OCTETS, LINE_HEADER_BITS};
 use crate::verdict::Verdict;
+use std::fmt;
 
 // A header, and what came in the place of its check octet.
-#[derive(Clone, Copy, PartialEq, Eq, Drop)]
+#[derive(Clone, Copy, Debug, PartialEq, Eq, Hash)]
 pub struct LineHeader {
     pub header: Header,
     pub hec: u8,
@@ -40,18 +41,13 @@ impl LineHeader {
     }
 
     // The verdict on the 40 bits. One wrong bit is told, and two are found out.
+    #[tactic(auto, using(crate::proofs::WrongBits::told, crate::proofs::WrongBits::past))]
     pub fn judge(self) -> Verdict
         ensures value { result ≡ verdict_of (syndrome_of self) }
         ensures one { OneTold (bits40 self) result }
         ensures two { TwoPast (bits40 self) result }
     {
-        self.told()
-    }
-
-    fn told(self) -> Verdict
-        ensures { result ≡ verdict_of (syndrome_of self) }
-    {
-        Verdict::of(self.syndrome())
+        Verdict::from(self.syndrome())
     }
 
     // The 40 bits with one bit turned: 0, the first sent, to 39; any other number names none.
@@ -59,13 +55,16 @@ impl LineHeader {
         ensures value { result ≡ of_bits (turned (bits40 self) bit) }
         ensures restored { Restored (bits40 self) bit (bits40 result) }
     {
-        self.turn(bit)
-    }
-
-    fn turn(self, bit: u8) -> LineHeader
-        ensures { result ≡ of_bits (turned (bits40 self) bit) }
-    {
         LineHeader::from_bits(self.to_bits() ^ place(bit))
+    }
+}
+
+// The five octets as they stand on the line.
+impl fmt::Display for LineHeader {
+    fn fmt<W: fmt::Write>(&self, f: &mut fmt::Formatter<W>) -> fmt::Result {
+        let LineHeader { header, hec } = *self;
+        let [a, b, c, d]: [u8; HEADER_OCTETS] = header.into();
+        write!(f, "{a:02X} {b:02X} {c:02X} {d:02X} {hec:02X}")
     }
 }
 

@@ -1,30 +1,33 @@
 // Why a call is refused.
-ghost use Rattle.std.specs.Prelude.{◌≡◌};
-ghost use Rattle.cell.specs.Refusal.{number_of};
+ghost use Rattle.std.specs.Prelude.{◌≡◌, Some};
+ghost use Rattle.cell.specs.Refusal.{number_of, sentence_of};
 
-// A refusal of any call of the product. A refused call changes nothing.
-#[derive(Clone, Copy, PartialEq, Eq, Debug, Drop)]
+use std::error::Error;
+use std::fmt;
+
+// A refusal of any call of the product. A refused call changes nothing. Each has the number by which a caller knows it.
+#[derive(Clone, Copy, Debug, PartialEq, Eq, Hash)]
 pub enum Refusal {
     // no octets were fed
-    NoOctets,
+    NoOctets = 1,
     // more than 4,096 octets were fed at once
-    TooManyOctets,
+    TooManyOctets = 2,
     // a phase of 0 or above 2^31 - 1
-    BadPhase,
+    BadPhase = 3,
     // a slice has another length than the call takes
-    WrongLength,
+    WrongLength = 4,
     // the header is reserved for idle or F3 cells
-    ReservedHeader,
+    ReservedHeader = 5,
     // the sink does not serve the header
-    NotServed,
+    NotServed = 6,
     // the sink has no space for the connection
-    NoSpace,
+    NoSpace = 7,
     // no cell waits in the source
-    NoneWaiting,
+    NoneWaiting = 8,
     // a sample word above 2^31 - 1
-    BadSampleWord,
+    BadSampleWord = 9,
     // the samples fit no phase, or several
-    NoOnePhase,
+    NoOnePhase = 10,
 }
 
 impl Refusal {
@@ -32,17 +35,27 @@ impl Refusal {
     pub fn number(self) -> u8
         ensures { result ≡ number_of self }
     {
-        match self {
-            Refusal::NoOctets => 1,
-            Refusal::TooManyOctets => 2,
-            Refusal::BadPhase => 3,
-            Refusal::WrongLength => 4,
-            Refusal::ReservedHeader => 5,
-            Refusal::NotServed => 6,
-            Refusal::NoSpace => 7,
-            Refusal::NoneWaiting => 8,
-            Refusal::BadSampleWord => 9,
-            Refusal::NoOnePhase => 10,
-        }
+        self as u8
     }
 }
+
+impl fmt::Display for Refusal {
+    ghost output = { λ refusal. Some (sentence_of refusal) };
+
+    fn fmt<W: fmt::Write>(&self, f: &mut fmt::Formatter<W>) -> fmt::Result {
+        f.write_str(match self {
+            Refusal::NoOctets => "no octets were fed",
+            Refusal::TooManyOctets => "more than 4,096 octets were fed at once",
+            Refusal::BadPhase => "the phase is 0 or above 2^31 - 1",
+            Refusal::WrongLength => "the slice has another length than the call takes",
+            Refusal::ReservedHeader => "the header is reserved for idle or F3 cells",
+            Refusal::NotServed => "the sink does not serve the header",
+            Refusal::NoSpace => "the sink has no space for the connection",
+            Refusal::NoneWaiting => "no cell waits in the source",
+            Refusal::BadSampleWord => "the sample word is above 2^31 - 1",
+            Refusal::NoOnePhase => "the samples fit no phase, or several",
+        })
+    }
+}
+
+impl Error for Refusal {}

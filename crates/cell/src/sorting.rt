@@ -1,13 +1,13 @@
 // Sorting a cell by its header.
 ghost use Rattle.std.specs.Prelude.{◌≡◌};
-ghost use Rattle.cell.specs.Sorting.{Cuts, Sorts, SortsPartsAs};
+ghost use Rattle.cell.specs.Sorting.{Sorts, SortsPartsAs};
 
 use crate::header::{Header, Kind};
 use crate::refusal::Refusal;
 use crate::sizes::PAYLOAD_OCTETS;
 
 // A cell by its kind. The payload is the part of the cell's octets that begins at octet 4.
-#[derive(Clone, Copy, Drop)]
+#[derive(Clone, Copy, Debug, PartialEq, Eq, Hash)]
 pub enum SortedCell<'a> {
     Idle,
     F3(&'a [u8]),
@@ -18,8 +18,13 @@ pub enum SortedCell<'a> {
 pub fn sort_cell(octets: &[u8]) -> Result<SortedCell<'_>, Refusal>
     ensures { Sorts octets.entry result }
 {
-    let Parts { header, payload } = cut(octets)?;
-    Ok(sort(header, payload))
+    let [a, b, c, d, payload @ ..] = octets else {
+        return Err(Refusal::WrongLength);
+    };
+    if payload.len() != PAYLOAD_OCTETS {
+        return Err(Refusal::WrongLength);
+    }
+    Ok(sort(Header::from([*a, *b, *c, *d]), payload))
 }
 
 // Sorts a cell whose header and payload are already told apart.
@@ -31,26 +36,4 @@ pub fn sort(header: Header, payload: &[u8]) -> SortedCell<'_>
         Kind::F3 => SortedCell::F3(payload),
         Kind::User => SortedCell::User(header, payload),
     }
-}
-
-#[derive(Clone, Copy, Drop)]
-struct Parts<'a> {
-    header: Header,
-    payload: &'a [u8],
-}
-
-// The four header octets, and the rest.
-fn cut(octets: &[u8]) -> Result<Parts<'_>, Refusal>
-    ensures { Cuts octets.entry result }
-{
-    let [a, b, c, d, payload @ ..] = octets else {
-        return Err(Refusal::WrongLength);
-    };
-    if payload.len() != PAYLOAD_OCTETS {
-        return Err(Refusal::WrongLength);
-    }
-    Ok(Parts {
-        header: Header(u32::from_be_bytes([*a, *b, *c, *d])),
-        payload,
-    })
 }

@@ -1,10 +1,10 @@
 // What a syndrome says of the 40 bits that left it.
 ghost use Rattle.std.specs.Prelude.{◌≡◌, true};
-ghost use Rattle.cell.specs.Verdict.{agreeing, Rule, TwoErrors, verdict_of, entry};
+ghost use Rattle.cell.specs.Verdict.{agreeing, Judged};
 ghost use Rattle.cell.specs.VerdictTest.{every_ruled};
 
 // The verdict on a header as received.
-#[derive(Clone, Copy, PartialEq, Eq, Drop)]
+#[derive(Clone, Copy, Debug, PartialEq, Eq, Hash)]
 pub enum Verdict {
     // the header came with its own check octet
     Clean,
@@ -14,14 +14,14 @@ pub enum Verdict {
     PastMending,
 }
 
-impl Verdict {
-    // The verdict on a syndrome. Nothing is promised of three or more wrong bits: they may look like one, or none.
-    pub fn of(syndrome: u8) -> Verdict
-        ensures value { result ≡ verdict_of syndrome }
-        ensures rule { Rule syndrome result }
-        ensures two { TwoErrors syndrome result }
+// The verdict on a syndrome. Nothing is promised of three or more wrong bits: they may look like one, or none.
+impl From<u8> for Verdict {
+    ghost from_gives = { Judged };
+
+    fn from(syndrome: u8) -> Verdict
+        ensures { Judged syndrome result }
     {
-        by_table(&VERDICTS, syndrome)
+        look_up(&VERDICTS, syndrome)
     }
 }
 
@@ -32,21 +32,12 @@ pub fn agrees(syndrome: u8) -> bool
     syndrome % 0x40 == 0
 }
 
-// The verdict on a syndrome by a table of which each entry meets the rule.
-fn by_table(table: &[Verdict; 256], syndrome: u8) -> Verdict
-    requires { every_ruled table.now ≡ true }
-    ensures value { result ≡ verdict_of syndrome }
-    ensures rule { Rule syndrome result }
-    ensures two { TwoErrors syndrome result }
-{
-    look_up(table, syndrome)
-}
-
-// The entry of a table at a syndrome.
+// The entry of a table of which each meets the rule.
 fn look_up(table: &[Verdict; 256], syndrome: u8) -> Verdict
-    ensures { result ≡ entry table.now syndrome }
+    requires { every_ruled table.now ≡ true }
+    ensures { Judged syndrome result }
 {
-    table[syndrome as usize]
+    table[usize::from(syndrome)]
 }
 
 // The verdict on each of the 256 syndromes.

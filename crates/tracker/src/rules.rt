@@ -217,7 +217,7 @@ impl Lock {
     {
         let phase = next_phase(phase_of(self.descrambler));
         let syndrome = freed(phase, window);
-        let verdict = Verdict::of(syndrome);
+        let verdict = Verdict::from(syndrome);
         match (self.delineation, self.descrambler, verdict) {
             (boundary, Descrambler::Acquisition(confidence), _) => {
                 let agrees = agrees(window);

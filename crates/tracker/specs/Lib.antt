@@ -3,3 +3,4 @@ pub mod Rules
 pub mod Events
 pub mod Tracker
 pub mod Reading
+pub mod Display

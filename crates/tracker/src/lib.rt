@@ -1,6 +1,7 @@
 // What tracks the line, bit by bit: the cell boundary, the descrambler's phase, mending, and the cell that is coming in. It knows no sink.
 #![tactic(auto)]
 
+mod display;
 pub mod events;
 pub mod reading;
 pub mod rules;

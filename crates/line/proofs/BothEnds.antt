@@ -6,10 +6,9 @@ use Rattle.tracker.specs.declared.tracker.Moment.{Moment as Brought}
 use Rattle.tracker.specs.declared.tracker.Moment.TheVariants as moment
 use Rattle.tracker.specs.Tracker.{start, bit_step, bit_brings}
 use Rattle.receiver.specs.declared.receiver.Receiver.{Receiver}
-use Rattle.receiver.specs.declared.reply.Reply.{Reply}
 use Rattle.receiver.specs.Book.{Log, bit_counted, booked, posted, brought, noted, log_run}
 use Rattle.receiver.specs.Feed.{log}
-use Rattle.receiver.specs.Handing.{Moment, bits}
+use Rattle.receiver.specs.Handing.{Reply, Moment, bits}
 use Rattle.receiver.specs.Run.{step, after}
 use Rattle.line.specs.Heard.{Heard}
 use Rattle.line.specs.Laws.{LawsThroughout, mended_only}

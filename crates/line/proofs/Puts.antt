@@ -3,15 +3,14 @@
 --   gained k o      what the offer o adds to the connection k where the sink is ready
 --   Ready s c       the sink s serves the cell c and has space for its connection
 --   Piece k o s s'  what handing up o added to k: one cell at most, and gained k o where the sink was ready
-use Rattle.std.proofs.Common.{◌≡◌, ℕ, ◌<◌, ◌≤◌, Bool, true, false, cond, eqb, List, [], ◌∷◌, ◌++◌, length, Some, None, Option, sym, refl, ap, ◌∙◌, subst, append_assoc, append-nil, arith, eqb-true}
+use Rattle.std.proofs.Common.{◌≡◌, ℕ, ◌<◌, ◌≤◌, Bool, true, false, cond, eqb, List, [], ◌∷◌, ◌++◌, length, Some, None, Ok, Err, Option, sym, refl, ap, ◌∙◌, subst, append_assoc, append-nil, arith, eqb-true}
 use mathlib.Core.Bool.{false≢true}
 use borrow.Author.Tests.{eqb-false}
 use Rattle.cell.specs.Header.{connection_of}
 use Rattle.ports.specs.Cell.{Cell, of_connection}
 use Rattle.ports.specs.Sink.{SinkState, Put}
-use Rattle.receiver.specs.declared.reply.Reply.{Reply}
-use Rattle.receiver.specs.declared.reply.Reply.TheVariants.{Nothing, Taken, Full, NotServed}
-use Rattle.receiver.specs.Handing.{Moment, Handed}
+use Rattle.receiver.specs.declared.event.SinkCause.TheVariants.{Full, NotServed}
+use Rattle.receiver.specs.Handing.{Reply, Moment, Handed}
 use Rattle.line.specs.Heard.{Gains}
 
 pub gains_append : (k : ℕ) (xs ys : List Moment) (g h : List Cell) → Gains k xs g → Gains k ys h → Gains k (xs ++ ys) (g ++ h)
@@ -67,12 +66,12 @@ piece_of k None s r s' h = record {
   few = omega arith;
   whole = λ f. refl;
 }
-piece_of k (Some c) s Nothing s' h = absurd h
-piece_of k (Some c) s Taken s' h = record {
+piece_of k (Some c) s None s' h = absurd h
+piece_of k (Some c) s (Some (Ok x)) s' h = record {
   cells = gained k (Some c);
   grew = put_adds (eqb (connection_of c.header) k) k c s s' refl h;
   few = at_most_one (eqb (connection_of c.header) k) c;
   whole = λ g. refl;
 }
-piece_of k (Some c) s Full s' h = piece_same k c s s' h.1 (λ r. let z = h.0.4 in let y = r.1 in omega arith)
-piece_of k (Some c) s NotServed s' h = piece_same k c s s' h.1 (λ r. false≢true (sym h.0.3 ∙ r.0))
+piece_of k (Some c) s (Some (Err Full)) s' h = piece_same k c s s' h.1 (λ r. let z = h.0.4 in let y = r.1 in omega arith)
+piece_of k (Some c) s (Some (Err NotServed)) s' h = piece_same k c s s' h.1 (λ r. false≢true (sym h.0.3 ∙ r.0))

@@ -18,11 +18,9 @@ use Rattle.tracker.specs.declared.tracker.Moment.{Moment as Brought}
 use Rattle.tracker.specs.declared.tracker.Moment.TheVariants as moment
 use Rattle.tracker.specs.Tracker.{bit_step, bit_brings, start}
 use Rattle.receiver.specs.declared.receiver.Receiver.{Receiver}
-use Rattle.receiver.specs.declared.reply.Reply.{Reply}
-use Rattle.receiver.specs.declared.reply.Reply.TheVariants.{Nothing, Taken}
 use Rattle.receiver.specs.Book.{Log, log_run}
 use Rattle.receiver.specs.Feed.{Events, Feeds, log, made}
-use Rattle.receiver.specs.Handing.{Moment, bits, Handed, Along, taken_in}
+use Rattle.receiver.specs.Handing.{Reply, Moment, bits, Handed, Along, taken_in}
 use Rattle.receiver.specs.Run.{bits_of, step, after, cell_in, kept_cell, user_by, user_cell, offered}
 use Rattle.line.specs.Heard.{ReadyAt}
 use Rattle.line.specs.Receiving as receiving
@@ -40,8 +38,8 @@ sink_with None k = k
 sink_with (Some c) k = put_into k c
 
 abbrev pub reply_to : Option Cell → Reply
-reply_to None = Nothing
-reply_to (Some c) = Taken
+reply_to None = None
+reply_to (Some c) = Some (Ok tt)
 
 pub record Roomy (n : ℕ) (k : SinkState) : Type 0 where
   pub serves : (h : ℕ) → k.serves h ≡ true

@@ -1,5 +1,6 @@
 -- Runs of bits: one bit, and one run after another.
-use Rattle.std.proofs.Common.{◌≡◌, ℕ, zero, suc, ◌+◌, ◌<◌, ◌≤◌, Bool, List, [], ◌∷◌, ◌++◌, length, get_or, take, sym, refl, ap, ◌∙◌, subst, ap₂, append_assoc, append-nil, arith, take_all}
+use Rattle.std.proofs.Common.{◌≡◌, ℕ, zero, suc, ◌+◌, ◌<◌, ◌≤◌, Bool, false, nat_eq, List, [], ◌∷◌, ◌++◌, length, get_or, take, sym, refl, ap, ◌∙◌, subst, ap₂, append_assoc, append-nil, arith, take_all}
+use Rattle.std.proofs.lemmas.Bool.{false≢true}
 use Rattle.std.proofs.lemmas.List.{take_more}
 use Rattle.ports.specs.Sink.{SinkState}
 use Rattle.ring.specs.declared.ring.Ring.{Ring}
@@ -9,10 +10,9 @@ use Rattle.tracker.specs.Tracker.{bit_step, bit_brings}
 use Rattle.receiver.specs.declared.book.Book.{Book}
 use Rattle.receiver.specs.declared.event.EventRecord.{EventRecord}
 use Rattle.receiver.specs.declared.receiver.Receiver.{Receiver}
-use Rattle.receiver.specs.declared.reply.Reply.{Reply}
 use Rattle.receiver.specs.Book.{Log, log_of, bit_counted, brought, noted, log_run}
 use Rattle.receiver.specs.Feed.{Events, events_of, log, Works, Feeds, FeedLaws}
-use Rattle.receiver.specs.Handing.{Moment, bits, Handed, Along, taken, taken_in}
+use Rattle.receiver.specs.Handing.{Reply, Moment, bits, Handed, Along, taken, taken_in}
 use Rattle.receiver.specs.Run.{octet_bits, bits_of, step, after, cell_in, user_cell, kept_cell}
 
 -- ---- one bit
@@ -88,7 +88,7 @@ bits_more os i h =
     ap bits_of (take_more os i 0 h) ∙ bits_of_append (take i os) (get_or os i 0 ∷ []) ∙ ap (λ l. bits_of (take i os) ++ l) (append-nil (octet_bits (get_or os i 0)))
 
 -- a feed, once its last octet is worked
-pub feeds : (os : List ℕ) (i : ℕ) (r r' : Receiver) (k k' : SinkState) (q q' : Events) (n : ℕ) → (length os ≡ 0 → ⊥) → length os ≤ 4096 → length os ≤ i
+pub feeds : (os : List ℕ) (i : ℕ) (r r' : Receiver) (k k' : SinkState) (q q' : Events) (n : ℕ) → nat_eq (length os) 0 ≡ false → length os ≤ 4096 → length os ≤ i
     → Works r k q (bits_of (take i os)) n r' k' q' → Feeds os r k q n r' k' q'
 feeds os i r r' k k' q q' n some few all h =
     record {
@@ -97,8 +97,8 @@ feeds os i r r' k k' q q' n some few all h =
       works = subst (λ (xs : List ℕ). Works r k q (bits_of xs) n r' k' q') (take_all i os all) h;
     }
   where
-    positive : (n : ℕ) → (n ≡ 0 → ⊥) → 0 < n
-    positive zero z = absurd (z refl)
+    positive : (n : ℕ) → nat_eq n 0 ≡ false → 0 < n
+    positive zero z = absurd (false≢true (sym z))
     positive (suc n) z = omega arith
 
 pub feed_laws : FeedLaws

@@ -6,14 +6,14 @@
 --   bump n              a counter, one on: it stops at 4,294,967,295
 --   bits_on n           the bit count, one on: it stops at 2^63 - 1
 --   posted g e          the event e goes into the ring behind all others; where no place is free it is lost and counted
---   posted_if g o f     the event f x, where o is Some x
+--   posted_if g o       the same of the event of o, if there is one
 --   marked g o          the counters of mended and discarded headers
 --   header_noted g e    the counter and the events of a header, in the order of the layers
---   replied r g         what handing up a user cell came to: counted and, where it was refused, told
+--   replied r g         what the sink answered for a user cell: counted and, where it is a refusal, told
 --   cell_noted k p r g  a kept cell of the kind k with the payload p: idle cells vanish, the payload of F3 cells is stored
 --   noted s b r g       all that is written down of the bit b, where the sink replied r
 --   log_run s g ms      all that is written down of the moments ms
-use Rattle.std.specs.Prelude.{ℕ, ◌+◌, ◌-◌, ◌^◌, min, Bool, cond, List, [], ◌∷◌, ◌++◌, length, replicate, Some, None, Option, nat_lt}
+use Rattle.std.specs.Prelude.{ℕ, ◌+◌, ◌-◌, ◌^◌, min, Bool, cond, List, [], ◌∷◌, ◌++◌, length, replicate, Some, None, Option, option_map, ⊤, Ok, Err, Result, nat_lt}
 use Rattle.cell.specs.Header.{kind_of}
 use Rattle.cell.specs.declared.header.Kind.{Kind}
 use Rattle.cell.specs.declared.header.Kind.TheVariants.{Idle, F3, User}
@@ -27,15 +27,14 @@ use Rattle.receiver.specs.declared.book.Counters.{Counters}
 use Rattle.receiver.specs.declared.event.Event.{Event}
 use Rattle.receiver.specs.declared.event.Event.TheVariants.{Header, Boundary, Descrambler, Sink}
 use Rattle.receiver.specs.declared.event.EventRecord.{EventRecord}
+use Rattle.receiver.specs.declared.event.SinkCause.{SinkCause}
 use Rattle.receiver.specs.declared.event.SinkCause.TheVariants as sink
-use Rattle.receiver.specs.declared.reply.Reply.{Reply}
-use Rattle.receiver.specs.declared.reply.Reply.TheVariants as reply
 use Rattle.tracker.specs.declared.tracker.Tracker.{Tracker}
 use Rattle.tracker.specs.declared.tracker.Moment.{Moment as Brought}
 use Rattle.tracker.specs.declared.tracker.Moment.TheVariants as moment
 use Rattle.tracker.specs.Tracker.{bit_step, bit_brings}
 use Rattle.receiver.specs.Event.{record_of}
-use Rattle.receiver.specs.Handing.{Moment}
+use Rattle.receiver.specs.Handing.{Reply, Moment}
 use Rattle.receiver.specs.Run.{step}
 
 pub record Log : Type 0 where
@@ -111,26 +110,27 @@ posted g e =
     (record { book = g.book; events = g.events ++ record_of g.book.bits e ∷ []; places = g.places })
     (booked (lost g.book) g)
 
-abbrev pub posted_if : {A : Type 0} → Log → Option A → (A → Event) → Log
-posted_if g None f = g
-posted_if g (Some x) f = posted g (f x)
+abbrev pub posted_if : Log → Option Event → Log
+posted_if g None = g
+posted_if g (Some e) = posted g e
 
 abbrev pub header_noted : HeaderEvents → Log → Log
 header_noted e g =
-    posted_if (posted_if (posted_if (booked (marked e.header g.book) g) e.header Header) e.boundary Boundary) e.descrambler Descrambler
+    posted_if (posted_if (posted_if (booked (marked e.header g.book) g) (option_map Header e.header)) (option_map Boundary e.boundary))
+    (option_map Descrambler e.descrambler)
 
-abbrev pub replied : Reply → Log → Log
-replied reply.Nothing g = g
-replied reply.Taken g = booked (counting g.book (took_one g.book.counters)) g
-replied reply.Full g = posted (booked (counting g.book (full_one g.book.counters)) g) (Sink sink.Full)
-replied reply.NotServed g = posted (booked (counting g.book (unserved_one g.book.counters)) g) (Sink sink.NotServed)
+abbrev pub replied : Result ⊤ SinkCause → Log → Log
+replied (Ok x) g = booked (counting g.book (took_one g.book.counters)) g
+replied (Err sink.Full) g = posted (booked (counting g.book (full_one g.book.counters)) g) (Sink sink.Full)
+replied (Err sink.NotServed) g = posted (booked (counting g.book (unserved_one g.book.counters)) g) (Sink sink.NotServed)
 
 -- ---- a bit, and a run of bits
 
 abbrev pub cell_noted : Kind → List ℕ → Reply → Log → Log
 cell_noted Idle p r g = g
 cell_noted F3 p r g = booked (f3_stored p g.book) g
-cell_noted User p r g = replied r g
+cell_noted User p None g = g
+cell_noted User p (Some r) g = replied r g
 
 abbrev pub brought : Brought → List ℕ → Reply → Log → Log
 brought moment.Quiet p r g = g

@@ -1,15 +1,14 @@
 // What the receiving end writes down: counters, the bits seen and the last F3 payload. Events go into a ring lent by the caller.
-ghost use Rattle.std.specs.Prelude.{◌≡◌, length};
-ghost use Rattle.receiver.specs.Book.{blank, bump, bit_counted, f3_stored, marked, posted, posted_if, header_noted, replied, lost, log_of};
+ghost use Rattle.std.specs.Prelude.{◌≡◌};
+ghost use Rattle.receiver.specs.Book.{blank, bump, bit_counted, f3_stored, marked, posted, posted_if, header_noted, replied, log_of};
 
 use crate::event::{Event, EventRecord, SinkCause};
-use crate::reply::Reply;
 use cell::sizes::PAYLOAD_OCTETS;
 use ring::ring::Ring;
-use tracker::events::{BoundaryCause, DescramblerCause, HeaderCause, HeaderEvents};
+use tracker::events::{HeaderCause, HeaderEvents};
 
 // What has happened since making. Each counter stops at 4,294,967,295.
-#[derive(Clone, Copy, PartialEq, Eq, Drop)]
+#[derive(Clone, Copy, Debug, Default, PartialEq, Eq, Hash)]
 pub struct Counters {
     // user cells that a sink took
     pub taken: u32,
@@ -31,7 +30,7 @@ pub struct Counters {
 const LAST_BIT: u64 = 0x7fff_ffff_ffff_ffff;
 
 // All that is written down.
-#[derive(Clone, Copy, Drop)]
+#[derive(Clone, Copy, Debug, PartialEq, Eq, Hash)]
 pub struct Book {
     pub(crate) counters: Counters,
     // the number of the last bit seen: the first is 1
@@ -40,11 +39,11 @@ pub struct Book {
     pub(crate) f3: [u8; PAYLOAD_OCTETS],
 }
 
-// One more, up to the last number.
-fn bump(count: u32) -> u32
-    ensures { result ≡ bump count }
+// One more. A counter stops at its last number.
+fn bump(count: &mut u32)
+    ensures { count.new ≡ bump count.old }
 {
-    count.saturating_add(1)
+    *count = count.saturating_add(1);
 }
 
 impl Book {
@@ -53,23 +52,14 @@ impl Book {
         ensures { result ≡ blank }
     {
         Book {
-            counters: Counters {
-                taken: 0,
-                mended: 0,
-                discarded: 0,
-                full: 0,
-                unserved: 0,
-                f3: 0,
-                lost: 0,
-            },
+            counters: Counters::default(),
             bits: 0,
             f3: [0; PAYLOAD_OCTETS],
         }
     }
 
-    pub(crate) fn f3(&self) -> &[u8]
-        ensures value { result.now ≡ self.now.f3 }
-        ensures whole { length result.now ≡ 48 }
+    pub(crate) fn f3(&self) -> &[u8; PAYLOAD_OCTETS]
+        ensures { result.now ≡ self.now.f3 }
     {
         &self.f3
     }
@@ -86,56 +76,27 @@ impl Book {
     }
 
     // An F3 cell came.
-    pub(crate) fn store_f3(&mut self, payload: &[u8])
-        requires { length payload.now ≡ 48 }
+    pub(crate) fn store_f3(&mut self, payload: &[u8; PAYLOAD_OCTETS])
         ensures { self.new ≡ f3_stored payload.now self.old }
     {
-        self.counters.f3 = bump(self.counters.f3);
-        self.f3.copy_from_slice(payload);
+        bump(&mut self.counters.f3);
+        self.f3 = *payload;
     }
 
     // Puts an event into the ring, or counts it as lost.
     fn post(&mut self, events: &mut Ring<'_, EventRecord>, event: Event)
         ensures { log_of self.new events.new ≡ posted (log_of self.old events.old) event }
     {
-        match events.push(event.record(self.bits)) {
-            Ok(()) => {}
-            Err(_) => self.lose(),
+        if events.push(event.record(self.bits)).is_err() {
+            bump(&mut self.counters.lost);
         }
     }
 
-    // An event found the ring full.
-    fn lose(&mut self)
-        ensures { self.new ≡ lost self.old }
+    fn post_if(&mut self, events: &mut Ring<'_, EventRecord>, event: Option<Event>)
+        ensures { log_of self.new events.new ≡ posted_if (log_of self.old events.old) event }
     {
-        self.counters.lost = bump(self.counters.lost);
-    }
-
-    fn post_header(&mut self, events: &mut Ring<'_, EventRecord>, cause: Option<HeaderCause>)
-        ensures { log_of self.new events.new ≡ posted_if (log_of self.old events.old) cause Event.Header }
-    {
-        if let Some(cause) = cause {
-            self.post(events, Event::Header(cause));
-        }
-    }
-
-    fn post_boundary(&mut self, events: &mut Ring<'_, EventRecord>, cause: Option<BoundaryCause>)
-        ensures { log_of self.new events.new ≡ posted_if (log_of self.old events.old) cause Event.Boundary }
-    {
-        if let Some(cause) = cause {
-            self.post(events, Event::Boundary(cause));
-        }
-    }
-
-    fn post_descrambler(
-        &mut self,
-        events: &mut Ring<'_, EventRecord>,
-        cause: Option<DescramblerCause>,
-    )
-        ensures { log_of self.new events.new ≡ posted_if (log_of self.old events.old) cause Event.Descrambler }
-    {
-        if let Some(cause) = cause {
-            self.post(events, Event::Descrambler(cause));
+        if let Some(event) = event {
+            self.post(events, event);
         }
     }
 
@@ -145,8 +106,8 @@ impl Book {
     {
         match cause {
             None => {}
-            Some(HeaderCause::Mended) => self.counters.mended = bump(self.counters.mended),
-            Some(HeaderCause::Discarded) => self.counters.discarded = bump(self.counters.discarded),
+            Some(HeaderCause::Mended) => bump(&mut self.counters.mended),
+            Some(HeaderCause::Discarded) => bump(&mut self.counters.discarded),
         }
     }
 
@@ -155,25 +116,27 @@ impl Book {
         ensures { log_of self.new events.new ≡ header_noted told (log_of self.old events.old) }
     {
         self.mark(told.header);
-        self.post_header(events, told.header);
-        self.post_boundary(events, told.boundary);
-        self.post_descrambler(events, told.descrambler);
+        self.post_if(events, told.header.map(Event::Header));
+        self.post_if(events, told.boundary.map(Event::Boundary));
+        self.post_if(events, told.descrambler.map(Event::Descrambler));
     }
 
     // Counts a cell that was handed up, and tells where it was refused.
-    pub(crate) fn note_reply(&mut self, events: &mut Ring<'_, EventRecord>, reply: Reply)
+    pub(crate) fn note_reply(
+        &mut self,
+        events: &mut Ring<'_, EventRecord>,
+        reply: Result<(), SinkCause>,
+    )
         ensures { log_of self.new events.new ≡ replied reply (log_of self.old events.old) }
     {
         match reply {
-            Reply::Nothing => {}
-            Reply::Taken => self.counters.taken = bump(self.counters.taken),
-            Reply::Full => {
-                self.counters.full = bump(self.counters.full);
-                self.post(events, Event::Sink(SinkCause::Full));
-            }
-            Reply::NotServed => {
-                self.counters.unserved = bump(self.counters.unserved);
-                self.post(events, Event::Sink(SinkCause::NotServed));
+            Ok(()) => bump(&mut self.counters.taken),
+            Err(cause) => {
+                match cause {
+                    SinkCause::Full => bump(&mut self.counters.full),
+                    SinkCause::NotServed => bump(&mut self.counters.unserved),
+                }
+                self.post(events, Event::Sink(cause));
             }
         }
     }

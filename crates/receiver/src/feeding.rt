@@ -6,13 +6,11 @@ ghost use Rattle.receiver.specs.Feed.{events_of, Works, FeedAnswer, Untouched, F
 ghost use Rattle.receiver.specs.Handing.{Handed, taken};
 ghost use Rattle.receiver.specs.Run.{bit_at, octet_bits, cell_in, user_cell, user_by};
 
-use crate::event::EventRecord;
+use crate::event::{EventRecord, SinkCause};
 use crate::handing::hand_up;
 use crate::receiver::Receiver;
-use crate::reply::Reply;
-use cell::header::Header;
+use cell::header::{Header, Kind};
 use cell::refusal::Refusal;
-use cell::sorting::{SortedCell, sort};
 use ports::sink::Sink;
 use ring::ring::Ring;
 use tracker::tracker::Moment;
@@ -27,21 +25,21 @@ impl Receiver {
         header: Header,
         sink: &mut S,
         events: &mut Ring<'_, EventRecord>,
-    ) -> Reply
+    ) -> Option<Result<(), SinkCause>>
         ensures tracker { self.new.tracker ≡ self.old.tracker }
         ensures handed { Handed (user_by (kind_of header.0) (record { header = header.0; payload = self.old.tracker.payload })) (S.Sink.state sink.old) result (S.Sink.state sink.new) }
         ensures noted { log_of self.new.book events.new ≡ cell_noted (kind_of header.0) self.old.tracker.payload result (log_of self.old.book events.old) }
     {
-        match sort(header, self.tracker.payload()) {
-            SortedCell::Idle => Reply::Nothing,
-            SortedCell::F3(payload) => {
-                self.book.store_f3(payload);
-                Reply::Nothing
+        match header.kind() {
+            Kind::Idle => None,
+            Kind::F3 => {
+                self.book.store_f3(self.tracker.payload());
+                None
             }
-            SortedCell::User(header, payload) => {
-                let reply = hand_up(sink, header, payload);
+            Kind::User => {
+                let reply = hand_up(sink, header, self.tracker.payload());
                 self.book.note_reply(events, reply);
-                reply
+                Some(reply)
             }
         }
     }
@@ -52,16 +50,16 @@ impl Receiver {
         moment: Moment,
         sink: &mut S,
         events: &mut Ring<'_, EventRecord>,
-    ) -> Reply
+    ) -> Option<Result<(), SinkCause>>
         ensures tracker { self.new.tracker ≡ self.old.tracker }
         ensures handed { Handed (user_cell (cell_in moment self.old.tracker.payload)) (S.Sink.state sink.old) result (S.Sink.state sink.new) }
         ensures noted { log_of self.new.book events.new ≡ brought moment self.old.tracker.payload result (log_of self.old.book events.old) }
     {
         match moment {
-            Moment::Quiet => Reply::Nothing,
+            Moment::Quiet => None,
             Moment::Header(told) => {
                 self.book.note_header(events, told);
-                Reply::Nothing
+                None
             }
             Moment::Cell(header) => self.deliver(header, sink, events),
         }
@@ -110,7 +108,7 @@ impl Receiver {
         ensures answer { FeedAnswer octets.now self.old (S.Sink.state sink.old) (events_of events.old) result self.new (S.Sink.state sink.new) (events_of events.new) }
         ensures untouched { Untouched result sink.old sink.new events.old events.new }
     {
-        if octets.len() == 0 {
+        if octets.is_empty() {
             return Err(Refusal::NoOctets);
         }
         if octets.len() > MOST_OCTETS {
@@ -133,13 +131,13 @@ fn bit_at(octet: u8, k: u8) -> bool
 }
 
 // How many cells the sink took by this reply.
-fn cells_taken(reply: Reply) -> u32
+fn cells_taken(reply: Option<Result<(), SinkCause>>) -> u32
     ensures value { result ≡ taken reply }
     ensures few { result ≤ 1 }
 {
     match reply {
-        Reply::Taken => 1,
-        Reply::Nothing | Reply::Full | Reply::NotServed => 0,
+        Some(Ok(())) => 1,
+        Some(Err(_)) | None => 0,
     }
 }
 

@@ -6,4 +6,3 @@ pub mod event;
 pub mod feeding;
 mod handing;
 pub mod receiver;
-pub mod reply;

@@ -1,9 +1,10 @@
 // The receiving end: making it, reset and readings.
-ghost use Rattle.std.specs.Prelude.{◌≡◌, length};
+ghost use Rattle.std.specs.Prelude.{◌≡◌};
 ghost use Rattle.tracker.specs.Reading.{state_of};
 ghost use Rattle.receiver.specs.Feed.{made, was_reset};
 
 use crate::book::{Book, Counters};
+use cell::sizes::PAYLOAD_OCTETS;
 use tracker::reading::State;
 use tracker::tracker::Tracker;
 
@@ -53,9 +54,8 @@ impl Receiver {
     }
 
     // The payload of the latest F3 cell; zeros before the first.
-    pub fn f3_payload(&self) -> &[u8]
-        ensures value { result.now ≡ self.now.book.f3 }
-        ensures whole { length result.now ≡ 48 }
+    pub fn f3_payload(&self) -> &[u8; PAYLOAD_OCTETS]
+        ensures { result.now ≡ self.now.book.f3 }
     {
         self.book.f3()
     }

@@ -63,9 +63,8 @@ impl Tracker {
     }
 
     // The payload of the cell that is coming in; after its last bit, descrambled if the cell is kept.
-    pub fn payload(&self) -> &[u8]
-        ensures value { result.now ≡ self.now.payload }
-        ensures whole { length result.now ≡ 48 }
+    pub fn payload(&self) -> &[u8; PAYLOAD_OCTETS]
+        ensures { result.now ≡ self.now.payload }
     {
         &self.payload
     }

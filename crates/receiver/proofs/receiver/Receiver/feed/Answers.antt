@@ -1,4 +1,4 @@
-use Rattle.std.proofs.Common.{arith}
+use Rattle.std.proofs.Common.{sym, ◌∙◌, arith}
 use Rattle.receiver.proofs.Runs.{works_none, works_then, bits_more, feeds}
 use Rattle.receiver.proofs.receiver.Receiver.feed.Goals as goal
 
@@ -12,5 +12,5 @@ loop-octet-preserved g c =
 pub returns : goal.returns
 returns g c = record {
   untouched = tt;
-  answer = feeds c.args.octets.now c.loop-octet.octet-index _ _ _ _ _ _ _ c.if-octets-eq0.false c.if-octets-gt-MOST_OCTETS.false c.loop-octet-test.false c.loop-octet.invariant.0;
+  answer = feeds c.args.octets.now c.loop-octet.octet-index _ _ _ _ _ _ _ (sym c.is_empty.ensures ∙ c.if-is_empty.false) c.if-octets-gt-MOST_OCTETS.false c.loop-octet-test.false c.loop-octet.invariant.0;
 }

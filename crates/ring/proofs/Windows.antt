@@ -1,9 +1,10 @@
 -- What a window on places used in a circle holds after one element more, and after one less.
-use Rattle.std.proofs.Common.{◌≡◌, ℕ, zero, suc, ◌+◌, ◌-◌, ◌<◌, ◌≤◌, Bool, true, false, cond, ltb, List, [], ◌∷◌, ◌++◌, length, get_or, take, drop, set, sym, refl, ap, ◌∙◌, append_assoc, arith, length-append, length-drop, length-take, ltb-false, ltb-true}
+use Rattle.std.proofs.Common.{◌≡◌, ◌↔◌, ℕ, zero, suc, ◌+◌, ◌-◌, ◌<◌, ◌≤◌, Bool, true, false, cond, ltb, List, [], ◌∷◌, ◌++◌, length, get_or, take, drop, set, sym, refl, ap, ◌∙◌, append_assoc, arith, length-append, length-drop, length-take, ltb-false, ltb-true}
 use lib.Seq.{take-set-lt}
-use Rattle.std.proofs.lemmas.List.{append-nil, take_all, drop_all, drop-set-add, drop-set-lt, take-set-le, set-append_left, set-append_right, take_more_set, take_more, drop_more, take-append-le, length-take-le}
+use Rattle.std.proofs.lemmas.List.{append-nil, take_all, drop_all, drop-set-add, drop-set-lt, take-set-le, set-append_left, set-append_right, take_more_set, take_more, drop_more, take-append-le, length-take-le, get_or_default}
 use Rattle.ring.specs.Window.{turned, window, around}
-use Rattle.ring.specs.Ring.{held}
+use Rattle.ring.specs.Ring.{held, places}
+use Rattle.ring.proofs.Cut.{take_min}
 use Rattle.ring.specs.declared.ring.Ring.{Ring}
 
 module _ {X : Type 0} (xs : List X) (first : ℕ) (within : first ≤ length xs) where
@@ -91,3 +92,47 @@ window_pop_around xs first count next x f p c is e = go (ltb (first + 1) (length
 pub length-held : {X : Type 0} (r : Ring X) → length (held r) ≡ r.count
 unfolding held
 length-held r = length-window r.slots.now r.first (omega arith) r.count (omega arith)
+
+-- ---- as the code has it
+
+pub held_none : {X : Type 0} (r : Ring X) → r.count ≡ 0 → held r ≡ []
+unfolding held
+held_none r e = window-none_at r.slots.now r.first r.count e
+
+pub none_held : {X : Type 0} (r : Ring X) → held r ≡ [] → r.count ≡ 0
+none_held r e = sym (length-held r) ∙ ap length e
+
+pub places_are : {X : Type 0} (r : Ring X) → places r ≡ length r.slots.now
+unfolding places
+places_are r = refl
+
+pub front_shown : {X : Type 0} (r : Ring X) (x : X) → x ≡ get_or r.slots.now r.first x → 0 < r.count → x ∷ drop 1 (held r) ≡ held r
+unfolding held
+front_shown r x e p =
+    let w = window_pop r.slots.now r.first r.count x (omega arith) p (omega arith) e in
+    sym (w ∙ ap (λ xs. x ∷ drop 1 xs) (sym w))
+
+-- one is held where an oldest is
+pub some_held : {X : Type 0} (r : Ring X) (x : X) → held r ≡ x ∷ drop 1 (held r) → 0 < r.count
+some_held r x e =
+    let n : length (held r) ≡ suc (length (drop 1 (held r))) = ap length e in omega (arith, n, length-held r)
+
+pub popped_drop : {X : Type 0} (r : Ring X) (next : ℕ) (x : X) → held r ≡ x ∷ drop 1 (held r) → next ≡ around (length r.slots.now) (r.first + 1)
+    → held r ≡ x ∷ window r.slots.now next (r.count - 1)
+unfolding held
+popped_drop r next x e is =
+    let p : 0 < r.count = some_held r x e in
+    let y = get_or r.slots.now r.first x in
+    let w = window_pop_around r.slots.now r.first r.count next y (omega arith) p (omega arith) (get_or_default r.slots.now r.first x y (omega arith)) is in
+    e ∙ ap (λ xs. x ∷ drop 1 xs) w
+
+pub some_free : {X : Type 0} (r : Ring X) (full : Bool) → full ≡ false → (full ≡ true) ↔ (length (held r) ≡ places r) → r.count < length r.slots.now
+some_free r full f h =
+    let n : r.count ≡ length r.slots.now → ⊥ = λ e. let z : true ≡ false = sym (h.1 (length-held r ∙ e ∙ sym (places_are r))) ∙ f in cc in
+    omega arith
+
+pub ruleset counting = (length-held, held_none, none_held, places_are)
+
+pub ruleset looking = (length-held, held_none, none_held, front_shown)
+
+pub ruleset making = (places_are, held_none, take_min, length-take)

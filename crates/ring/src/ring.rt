@@ -4,7 +4,8 @@ ghost use Rattle.std.specs.Prelude.{◌-◌, ◌≤◌, length};
 mod calls;
 mod places;
 
-pub use places::MOST_PLACES;
+// A ring uses no more places than this.
+pub const MOST_PLACES: usize = 1024;
 
 // A queue of elements in lent places. It holds as many as it has places, and uses freed places again.
 #[derive(Drop)]

@@ -1,40 +1,25 @@
 // Making a ring, and what goes in and out of it.
-ghost use Rattle.std.specs.Prelude.{◌≡◌, ◌≤◌, min, [], length, take};
+ghost use Rattle.std.specs.Prelude.{◌≡◌, min, [], length, take};
 ghost use Rattle.ring.specs.Ring.{held, places, Pushes, Shows, Pops};
 
-use super::Ring;
-use super::places::{place_after, places_used};
+use super::places::place_after;
+use super::{MOST_PLACES, Ring};
 use cell::refusal::Refusal;
 
 impl<'a, T: Copy> Ring<'a, T> {
     // An empty ring in the places lent, or in the first 1,024 of them where there are more.
+    #[tactic(auto, using(crate::proofs::Windows::making))]
     pub fn new(slots: &'a mut [T]) -> Ring<'a, T>
         ensures empty { held result ≡ [] }
         ensures places { places result ≡ min (length slots.old) 1024 }
         ensures first { result.slots.now ≡ take 1024 slots.old }
     {
-        let used = places_used(slots.len());
+        let used = slots.len().min(MOST_PLACES);
         Ring {
-            slots: &mut slots[0..used],
+            slots: &mut slots[..used],
             first: 0,
             count: 0,
         }
-    }
-
-    // How many elements are held.
-    pub fn len(&self) -> usize
-        ensures value { result ≡ length (held self.now) }
-        ensures small { result ≤ 1024 }
-    {
-        self.number_held()
-    }
-
-    // How many elements it can hold.
-    pub fn places(&self) -> usize
-        ensures value { result ≡ places self.now }
-        ensures small { result ≤ 1024 }
-    {
-        self.number_lent()
     }
 
     // Puts an element behind all others. Refused while no place is free.
@@ -51,26 +36,22 @@ impl<'a, T: Copy> Ring<'a, T> {
     }
 
     // The oldest element. Refused while none is held.
+    #[tactic(auto, using(crate::proofs::Windows::looking))]
     pub fn front(&self) -> Result<T, Refusal>
         ensures { Shows self.now result }
     {
         if self.is_empty() {
             return Err(Refusal::NoneWaiting);
         }
-        let at = self.first;
-        Ok(self.element(at))
+        Ok(self.slots[self.first])
     }
 
     // Takes the oldest element out. Refused while none is held.
     pub fn pop(&mut self) -> Result<T, Refusal>
         ensures { Pops self.old result self.new }
     {
-        if self.is_empty() {
-            return Err(Refusal::NoneWaiting);
-        }
-        let at = self.first;
-        let x = self.element(at);
-        self.first = place_after(at, 1, self.slots.len());
+        let x = self.front()?;
+        self.first = place_after(self.first, 1, self.slots.len());
         self.count -= 1;
         Ok(x)
     }

@@ -1,17 +1,41 @@
-// The places of a ring: how many are used, which one comes next, and what stands where.
-ghost use Rattle.std.specs.Prelude.{◌≡◌, ◌+◌, ◌<◌, ◌≤◌, min, length, ◌==◌, nat_le, slice_index_or};
+// How many elements a ring holds, how many it can hold, and which place comes next.
+#![tactic(auto, using(crate::proofs::Windows::counting))]
+
+ghost use Rattle.std.specs.Prelude.{◌≡◌, ◌+◌, ◌<◌, ◌≤◌, ◌↔◌, [], length, IsTrue};
+ghost use Rattle.ring.specs.Ring.{held, places};
 ghost use Rattle.ring.specs.Window.{around};
 
 use super::Ring;
 
-// A ring uses no more places than this.
-pub const MOST_PLACES: usize = 1024;
+impl<'a, T: Copy> Ring<'a, T> {
+    // How many elements are held.
+    pub fn len(&self) -> usize
+        ensures value { result ≡ length (held self.now) }
+        ensures small { result ≤ 1024 }
+    {
+        self.count
+    }
 
-// How many of the places lent a ring uses.
-pub(super) fn places_used(lent: usize) -> usize
-    ensures { result ≡ min lent 1024 }
-{
-    lent.min(MOST_PLACES)
+    // How many elements it can hold.
+    pub fn places(&self) -> usize
+        ensures value { result ≡ places self.now }
+        ensures small { result ≤ 1024 }
+    {
+        self.slots.len()
+    }
+
+    pub fn is_empty(&self) -> bool
+        ensures { IsTrue result ↔ (held self.now ≡ []) }
+    {
+        self.len() == 0
+    }
+
+    // No place is free.
+    pub fn is_full(&self) -> bool
+        ensures { IsTrue result ↔ (length (held self.now) ≡ places self.now) }
+    {
+        self.len() == self.places()
+    }
 }
 
 // The place that lies `steps` after another, the first one coming after the last.
@@ -24,39 +48,4 @@ pub(super) fn place_after(at: usize, steps: usize, places: usize) -> usize
 {
     let next = at + steps;
     if next < places { next } else { next - places }
-}
-
-impl<'a, T: Copy> Ring<'a, T> {
-    pub(super) fn number_held(&self) -> usize
-        ensures { result ≡ self.now.count }
-    {
-        self.count
-    }
-
-    pub(super) fn number_lent(&self) -> usize
-        ensures { result ≡ length self.now.slots.now }
-    {
-        self.slots.len()
-    }
-
-    pub(super) fn is_full(&self) -> bool
-        ensures { result ≡ nat_le (length self.now.slots.now) self.now.count }
-    {
-        self.number_lent() <= self.number_held()
-    }
-
-    pub(super) fn is_empty(&self) -> bool
-        ensures { result ≡ (self.now.count == 0) }
-    {
-        self.number_held() == 0
-    }
-
-    // What stands at a place.
-    pub(super) fn element(&self, at: usize) -> T
-        requires { at < length self.now.slots.now }
-        ensures { result ≡ slice_index_or self.now.slots.now at result }
-    {
-        let slots = &*self.slots;
-        slots[at]
-    }
 }

@@ -1,11 +1,10 @@
 -- Reading a line character by character answers what it spells, and nothing else would.
-use Rattle.std.proofs.Common.{◌≡◌, ℕ, ◌+◌, ◌*◌, ◌/◌, ◌%◌, ◌^◌, ◌<◌, List, [], ◌∷◌, ◌++◌, length, None, Ok, Err, Result, sym, refl, ap, ◌∙◌, subst, append-nil, zero-add, arith}
+use Rattle.std.proofs.Common.{◌≡◌, ℕ, ◌+◌, ◌*◌, ◌/◌, ◌%◌, ◌^◌, ◌<◌, List, [], ◌∷◌, ◌++◌, length, None, Some, Ok, Err, Result, sym, refl, ap, ◌∙◌, subst, append-nil, zero-add, arith}
 use Rattle.std.proofs.lemmas.Bool.Decides.{nat_tests}
 use Rattle.cell.specs.LineHeader.{of_bits}
-use Rattle.headers.specs.Capture.{character_of, Spells, nothing, blank, octet, Stops, not_hex, not_hex_second, blank_inside, ends, Cut, Faulty, cut, few, many, Reads, NoHeader, of_octets}
+use Rattle.cell.specs.declared.line_header.LineHeader.{LineHeader}
+use Rattle.headers.specs.Capture.{Spelt, character_of, Spells, nothing, blank, octet, Stops, not_hex, not_hex_second, blank_inside, ends, Cut, Faulty, cut, few, many, Reads, NoHeader, of_octets}
 use Rattle.headers.specs.Reading.{start, begun, after, ends_with, read_from}
-use Rattle.headers.specs.declared.capture.CaptureLine.{CaptureLine}
-use Rattle.headers.specs.declared.capture.CaptureLine.TheVariants.{Empty, Header, Malformed}
 use Rattle.headers.specs.declared.capture.Fault.{Fault}
 use Rattle.headers.specs.declared.capture.Fault.TheVariants.{NotHex, HalfOctet, TooFew, TooMany}
 use Rattle.headers.specs.declared.character.Character.{Character}
@@ -17,9 +16,9 @@ abbrev between : ℕ → ℕ → Reading
 between k w = record { octets = k; word = w; half = None }
 
 -- what the line is by how one more character was taken
-abbrev onwards : ℕ → List ℕ → Result Reading Fault → CaptureLine
+abbrev onwards : ℕ → List ℕ → Result Reading Fault → Spelt
 onwards n l (Ok s) = read_from s (n + 1) l
-onwards n l (Err f) = Malformed f
+onwards n l (Err f) = Err f
 
 read_character : (r : Reading) (n c : ℕ) (l : List ℕ) {x : Character} → character_of c ≡ x → read_from r n (c ∷ l) ≡ onwards n l (after r n x)
 read_character r n c l e = ap (λ (x : Character). onwards n l (after r n x)) e
@@ -48,27 +47,27 @@ read_spelt {line} {os} s =
     ap (read_from start 0) (sym (append-nil line)) ∙ read_front s 0 0 0 [] ∙ ap (λ (k : ℕ). ends_with k (pushes 0 os)) (zero-add (length os))
 
 -- where no octet comes, reading stops with that fault
-read_stop : {n : ℕ} {rest : List ℕ} {f : Fault} → Stops n rest f → (k w : ℕ) → read_from (between k w) n rest ≡ Malformed f
+read_stop : {n : ℕ} {rest : List ℕ} {f : Fault} → Stops n rest f → (k w : ℕ) → read_from (between k w) n rest ≡ Err f
 read_stop (not_hex {n} {c} {rest} e) k w = read_character (between k w) n c rest e
 read_stop (not_hex_second {n} {a} {x} {c} {rest} p q) k w =
     read_character (between k w) n a (c ∷ rest) p
     ∙ read_character (begun (between k w) x) (n + 1) c rest q
-    ∙ ap (λ (m : ℕ). Malformed (NotHex m)) (omega arith)
+    ∙ ap (λ (m : ℕ). Err (NotHex m)) (omega arith)
 read_stop (blank_inside {n} {a} {x} {c} {rest} p q) k w =
     read_character (between k w) n a (c ∷ rest) p ∙ read_character (begun (between k w) x) (n + 1) c rest q
 read_stop (ends {n} {a} p) k w = read_character (between k w) n a [] p
 
-read_cut : {line : List ℕ} {f : Fault} → Cut line f → read_from start 0 line ≡ Malformed f
+read_cut : {line : List ℕ} {f : Fault} → Cut line f → read_from start 0 line ≡ Err f
 read_cut {f = f} k =
     ap (read_from start 0) k.whole
     ∙ read_front k.spelt 0 0 0 k.rest
     ∙ moved (pushes 0 k.octets) k.rest refl (omega arith)
     ∙ read_stop k.stops (0 + length k.octets) (pushes 0 k.octets)
 
-ends_with_few : (n w : ℕ) → 0 < n → n < 5 → ends_with n w ≡ Malformed (TooFew n)
+ends_with_few : (n w : ℕ) → 0 < n → n < 5 → ends_with n w ≡ Err (TooFew n)
 ends_with_few n w p q = grind (arith, nat_tests)
 
-ends_with_many : (n w : ℕ) → 5 < n → ends_with n w ≡ Malformed (TooMany n)
+ends_with_many : (n w : ℕ) → 5 < n → ends_with n w ≡ Err (TooMany n)
 ends_with_many n w p = grind (arith, nat_tests)
 
 digit_small : (c x : ℕ) → character_of c ≡ Digit x → x < 16
@@ -159,36 +158,41 @@ spelt_reads line (a ∷ b ∷ c ∷ d ∷ e ∷ f ∷ os) s =
     let more : 5 < n = omega arith in
     subst (Reads line) (sym (ends_with_many n (pushes 0 (a ∷ b ∷ c ∷ d ∷ e ∷ f ∷ os)) more)) (many s more)
 
--- the answer is what the line is
-pub reading_reads : (line : List ℕ) → Reads line (read_from start 0 line)
+-- the answer is what the line spells
+reading_reads : (line : List ℕ) → Reads line (read_from start 0 line)
 reading_reads line =
     elim (either_way line).0 [ spells {os = os} s ↦ subst (Reads line) (sym (read_spelt s)) (spelt_reads line os s) | stopped k ↦ subst (Reads line) (sym (read_cut k)) (cut k) ]
 
--- and the line is nothing else
-pub only_reading : (line : List ℕ) (r : CaptureLine) → Reads line r → r ≡ read_from start 0 line
-only_reading line Empty s = sym (read_spelt s)
-only_reading line (Header h) k =
-    ap Header k.header
-    ∙ ap Header (sym (five_joined k.a k.b k.c k.d k.e (spelt_small k.spelt)))
+-- and the line spells nothing else
+only_reading : (line : List ℕ) (r : Spelt) → Reads line r → r ≡ read_from start 0 line
+only_reading line (Ok None) s = sym (read_spelt s)
+only_reading line (Ok (Some h)) k =
+    ap (λ (x : LineHeader). Ok (Some x)) k.header
+    ∙ ap (λ (x : LineHeader). Ok (Some x)) (sym (five_joined k.a k.b k.c k.d k.e (spelt_small k.spelt)))
     ∙ sym (read_spelt k.spelt)
-only_reading line (Malformed f) k = faulty k
+only_reading line (Err f) k = faulty k
   where
-    faulty : {f : Fault} → Faulty line f → Malformed f ≡ read_from start 0 line
+    faulty : {f : Fault} → Faulty line f → Err f ≡ read_from start 0 line
     faulty (cut k) = sym (read_cut k)
     faulty (few {os} s p q) = sym (read_spelt s ∙ ends_with_few (length os) (pushes 0 os) p q)
     faulty (many {os} s p) = sym (read_spelt s ∙ ends_with_many (length os) (pushes 0 os) p)
 
-pub no_header : (line : List ℕ) (f : Fault) → read_from start 0 line ≡ Malformed f → NoHeader line
+no_header : (line : List ℕ) (f : Fault) → read_from start 0 line ≡ Err f → NoHeader line
 no_header line f bad os s = ends_with_neither (length os) (pushes 0 os) f (sym (read_spelt s) ∙ bad)
   where
-    ends_with_neither : (n w : ℕ) (f : Fault) → ends_with n w ≡ Malformed f → (n ≡ 0 → ⊥) × (n ≡ 5 → ⊥)
+    ends_with_neither : (n w : ℕ) (f : Fault) → ends_with n w ≡ Err f → (n ≡ 0 → ⊥) × (n ≡ 5 → ⊥)
     ends_with_neither n w f bad = (
       λ e. let clash = sym (ap (λ (m : ℕ). ends_with m w) e) ∙ bad in let z : ◌≡◌ {A = ℕ} 0 1 = cc in omega arith,
       λ e. let clash = sym (ap (λ (m : ℕ). ends_with m w) e) ∙ bad in let z : ◌≡◌ {A = ℕ} 0 1 = cc in omega arith,
     )
 
-pub read_on : (r : Reading) (n c : ℕ) (l : List ℕ) (s : Reading) → Ok s ≡ after r n (character_of c) → read_from r n (c ∷ l) ≡ read_from s (n + 1) l
-read_on r n c l s e = ap (onwards n l) (sym e)
-
-pub read_fault : (r : Reading) (n c : ℕ) (l : List ℕ) (f : Fault) → Err f ≡ after r n (character_of c) → read_from r n (c ∷ l) ≡ Malformed f
+pub read_fault : (r : Reading) (n c : ℕ) (l : List ℕ) (f : Fault) → Err f ≡ after r n (character_of c) → read_from r n (c ∷ l) ≡ Err f
 read_fault r n c l f e = ap (onwards n l) (sym e)
+
+pub told : (line : List ℕ) (r : Spelt) → r ≡ read_from start 0 line → record { reads : Reads line r; only : (s : Spelt) → Reads line s → s ≡ r; malformed : (f : Fault) → r ≡ Err f → NoHeader line }
+told line r is =
+    record {
+      reads = subst (Reads line) (sym is) (reading_reads line);
+      only = λ s h. only_reading line s h ∙ sym is;
+      malformed = λ f bad. no_header line f (sym is ∙ bad);
+    }

@@ -3,16 +3,15 @@
 --   character_of c       what the octet c is: a blank, a hexadecimal digit of some value, or neither
 --   Spells line os       line is the octets os, two digits each, with blanks between, before or after them, and nothing else
 --   of_octets a b c d e  the header of the octets a to d, with e received in the place of its check octet
---   Reads line r         r is what line is
+--   Spelt                what a line spells: a header or nothing, or else why it spells neither
+--   Reads line r         r is what line spells
 --   FiveOctets line h    line spells five octets, and h is their header
 --   Faulty line f        f is why line is no header
 --   Cut line f           after a front that spells octets there comes no octet; f says in which column, counted from 1, and why
 --   Stops n rest f       the same of rest, before which n characters stand
 --   NoHeader line        line spells neither five octets nor none
-use Rattle.std.specs.Prelude.{◌≡◌, ℕ, ◌+◌, ◌-◌, ◌*◌, ◌^◌, ◌<◌, cond, List, [], ◌∷◌, ◌++◌, length, ◌==◌, ◌≢◌, nat_le}
+use Rattle.std.specs.Prelude.{◌≡◌, ℕ, ◌+◌, ◌-◌, ◌*◌, ◌^◌, ◌<◌, cond, List, [], ◌∷◌, ◌++◌, length, Some, None, Option, Ok, Err, Result, ◌==◌, ◌≢◌, nat_le}
 use Rattle.cell.specs.declared.line_header.LineHeader.{LineHeader}
-use Rattle.headers.specs.declared.capture.CaptureLine.{CaptureLine}
-use Rattle.headers.specs.declared.capture.CaptureLine.TheVariants.{Empty, Header, Malformed}
 use Rattle.headers.specs.declared.capture.Fault.{Fault}
 use Rattle.headers.specs.declared.capture.Fault.TheVariants.{NotHex, HalfOctet, TooFew, TooMany}
 use Rattle.headers.specs.declared.character.Character.{Character}
@@ -69,10 +68,13 @@ pub data Faulty (line : List ℕ) : Fault → Type 0 where
   few : {os : List ℕ} → Spells line os → 0 < length os → length os < 5 → Faulty line (TooFew (length os))
   many : {os : List ℕ} → Spells line os → 5 < length os → Faulty line (TooMany (length os))
 
-abbrev pub Reads : List ℕ → CaptureLine → Type 0
-Reads line Empty = Spells line []
-Reads line (Header h) = FiveOctets line h
-Reads line (Malformed f) = Faulty line f
+abbrev pub Spelt : Type 0
+Spelt = Result (Option LineHeader) Fault
+
+abbrev pub Reads : List ℕ → Spelt → Type 0
+Reads line (Ok None) = Spells line []
+Reads line (Ok (Some h)) = FiveOctets line h
+Reads line (Err f) = Faulty line f
 
 abbrev pub NoHeader : List ℕ → Type 0
 NoHeader line = (os : List ℕ) → Spells line os → (length os ≢ 0) × (length os ≢ 5)

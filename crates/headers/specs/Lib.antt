@@ -1,5 +1,6 @@
 pub mod LineEnd
 pub mod Capture
+pub mod Fault
 pub mod Reading
 pub mod Finding
 pub mod Report

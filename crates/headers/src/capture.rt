@@ -1,25 +1,17 @@
 // A line of a capture: the header that it spells, or why it spells none.
-ghost use Rattle.std.specs.Prelude.{◌≡◌, ◌-◌, ◌^◌, ◌<◌};
-ghost use Rattle.headers.specs.Capture.{character_of, Reads, NoHeader};
-ghost use Rattle.headers.specs.Reading.{start, after, at_end, read_from};
+ghost use Rattle.std.specs.Prelude.{◌≡◌, Some, ◌-◌, ◌^◌, ◌<◌};
+ghost use Rattle.headers.specs.Capture.{Spelt, character_of, Reads, NoHeader};
+ghost use Rattle.headers.specs.Fault.{text_of};
+ghost use Rattle.headers.specs.Reading.{after, at_end};
 
 use crate::character::Character;
 use cell::line_header::LineHeader;
 use cell::sizes::LINE_HEADER_OCTETS;
-
-// What a line of a capture is.
-#[derive(Clone, Copy, Drop)]
-pub enum CaptureLine {
-    // nothing but blanks
-    Empty,
-    // the five octets of a header as received
-    Header(LineHeader),
-    // no header
-    Malformed(Fault),
-}
+use std::error::Error;
+use std::fmt;
 
 // Why a line is no header. Columns count octets, from 1.
-#[derive(Clone, Copy, Drop)]
+#[derive(Clone, Copy, Debug, PartialEq, Eq)]
 pub enum Fault {
     // the character in this column is no hexadecimal digit
     NotHex(usize),
@@ -31,33 +23,36 @@ pub enum Fault {
     TooMany(usize),
 }
 
-impl CaptureLine {
-    // What a line without its line end is.
-    pub fn read(line: &[u8]) -> CaptureLine
-        ensures reads { Reads line.now result }
-        ensures only { (s : CaptureLine) → Reads line.now s → s ≡ result }
-        ensures malformed { (f : Fault) → result ≡ CaptureLine.Malformed f → NoHeader line.now }
-    {
-        scan(line)
+impl fmt::Display for Fault {
+    ghost output = { λ fault. Some (text_of fault) };
+
+    fn fmt<W: fmt::Write>(&self, f: &mut fmt::Formatter<W>) -> fmt::Result {
+        match *self {
+            Fault::NotHex(column) => write!(f, "column {column} is no hexadecimal digit"),
+            Fault::HalfOctet(column) => write!(f, "the octet in column {column} has one digit"),
+            Fault::TooFew(octets) => write!(f, "too few octets, {octets} in place of 5"),
+            Fault::TooMany(octets) => write!(f, "too many octets, {octets} in place of 5"),
+        }
     }
 }
 
-// The same, character by character.
-fn scan(line: &[u8]) -> CaptureLine
-    ensures { result ≡ read_from start 0 line.now }
+impl Error for Fault {}
+
+// The header that a line without its line end spells, as received; none where the line is nothing but blanks.
+pub fn read(line: &[u8]) -> Result<Option<LineHeader>, Fault>
+    ensures reads { Reads line.now result }
+    ensures only { (s : Spelt) → Reads line.now s → s ≡ result }
+    ensures malformed { (f : Fault) → result ≡ Err f → NoHeader line.now }
 {
-    let mut reading = Reading::new();
+    let mut reading = Reading::default();
     for (before, octet) in line.iter().enumerate() {
-        match reading.take(before, *octet) {
-            Ok(next) => reading = next,
-            Err(fault) => return CaptureLine::Malformed(fault),
-        }
+        reading = reading.take(before, *octet)?;
     }
     reading.end(line.len())
 }
 
 // A line that is read character by character.
-#[derive(Clone, Copy, Drop)]
+#[derive(Clone, Copy, Default)]
 struct Reading {
     // whole octets so far
     octets: usize,
@@ -68,24 +63,13 @@ struct Reading {
 }
 
 impl Reading {
-    // Nothing is read yet.
-    fn new() -> Reading
-        ensures { result ≡ start }
-    {
-        Reading {
-            octets: 0,
-            word: 0,
-            half: None,
-        }
-    }
-
     // Reads the character that stands after `before` others.
     fn take(self, before: usize, octet: u8) -> Result<Reading, Fault>
         requires before { before < 2 ^ 64 - 1 }
         requires octets { self.octets < 2 ^ 64 - 1 }
         ensures { result ≡ after self before (character_of octet) }
     {
-        match (self.half, Character::of(octet)) {
+        match (self.half, Character::from(octet)) {
             (None, Character::Blank) => Ok(self),
             (None, Character::Digit(high)) => Ok(Reading {
                 half: Some(high),
@@ -101,16 +85,16 @@ impl Reading {
         }
     }
 
-    // What the line is where it ends after `before` characters.
-    fn end(self, before: usize) -> CaptureLine
+    // What the line spells where it ends after `before` characters.
+    fn end(self, before: usize) -> Result<Option<LineHeader>, Fault>
         ensures { result ≡ at_end self before }
     {
         match (self.half, self.octets) {
-            (Some(_), _) => CaptureLine::Malformed(Fault::HalfOctet(before)),
-            (None, 0) => CaptureLine::Empty,
-            (None, n) if n < LINE_HEADER_OCTETS => CaptureLine::Malformed(Fault::TooFew(n)),
-            (None, LINE_HEADER_OCTETS) => CaptureLine::Header(LineHeader::from_bits(self.word)),
-            (None, n) => CaptureLine::Malformed(Fault::TooMany(n)),
+            (Some(_), _) => Err(Fault::HalfOctet(before)),
+            (None, 0) => Ok(None),
+            (None, n) if n < LINE_HEADER_OCTETS => Err(Fault::TooFew(n)),
+            (None, LINE_HEADER_OCTETS) => Ok(Some(LineHeader::from_bits(self.word))),
+            (None, n) => Err(Fault::TooMany(n)),
         }
     }
 }

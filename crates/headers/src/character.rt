@@ -2,7 +2,7 @@
 ghost use Rattle.std.specs.Prelude.{◌≡◌};
 ghost use Rattle.headers.specs.Capture.{character_of};
 
-#[derive(Clone, Copy, Drop)]
+#[derive(Clone, Copy, Debug, PartialEq, Eq)]
 pub enum Character {
     // stands between octets
     Blank,
@@ -12,11 +12,11 @@ pub enum Character {
     Other,
 }
 
-impl Character {
-    // What an octet of a line stands for, read as ASCII.
-    pub fn of(octet: u8) -> Character
-        ensures { result ≡ character_of octet }
-    {
+// What an octet of a line stands for, read as ASCII.
+impl From<u8> for Character {
+    ghost from_gives = { λ octet character. character ≡ character_of octet };
+
+    fn from(octet: u8) -> Character {
         match octet {
             b' ' | b'\t' => Character::Blank,
             b'0'..=b'9' => Character::Digit(octet - b'0'),

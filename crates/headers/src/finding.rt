@@ -1,14 +1,13 @@
 // What is found out of a header as received: its verdict, and what it was where one bit came wrong.
 ghost use Rattle.std.specs.Prelude.{◌≡◌};
-ghost use Rattle.cell.specs.LineHeader.{bits40, syndrome_of};
-ghost use Rattle.cell.specs.Verdict.{verdict_of};
-ghost use Rattle.headers.specs.Finding.{finding_of, CleanSent, OneMended, TwoFound};
+ghost use Rattle.headers.specs.Finding.{finding_of, Finds};
 
 use cell::header::Kind;
 use cell::line_header::LineHeader;
 use cell::verdict::Verdict;
+use std::fmt;
 
-#[derive(Clone, Copy, Drop)]
+#[derive(Clone, Copy, Debug, PartialEq, Eq)]
 pub enum Finding {
     // the header came with its own check octet
     Clean,
@@ -18,19 +17,16 @@ pub enum Finding {
     PastMending,
 }
 
-impl Finding {
-    // What is found out of a header as received. One wrong bit is mended, and two are found out.
-    pub fn of(received: LineHeader) -> Finding
-        ensures value { result ≡ finding_of received (verdict_of (syndrome_of received)) }
-        ensures clean { CleanSent (bits40 received) result }
-        ensures one { OneMended (bits40 received) result }
-        ensures two { TwoFound (bits40 received) result }
-    {
+// What is found out of a header as received. One wrong bit is mended, and two are found out.
+impl From<LineHeader> for Finding {
+    ghost from_gives = { Finds };
+
+    fn from(received: LineHeader) -> Finding {
         under(received, received.judge())
     }
 }
 
-// What is found out under a verdict.
+// What is found under a verdict. Apart from `from`, since within it a wrong finding shows in its proof alone, and not in a clause.
 fn under(received: LineHeader, verdict: Verdict) -> Finding
     ensures { result ≡ finding_of received verdict }
 {
@@ -41,5 +37,17 @@ fn under(received: LineHeader, verdict: Verdict) -> Finding
             Finding::OneWrongBit(bit, mended, mended.header.kind())
         }
         Verdict::PastMending => Finding::PastMending,
+    }
+}
+
+impl fmt::Display for Finding {
+    fn fmt<W: fmt::Write>(&self, f: &mut fmt::Formatter<W>) -> fmt::Result {
+        match *self {
+            Finding::Clean => f.write_str("clean"),
+            Finding::OneWrongBit(bit, mended, kind) => {
+                write!(f, "bit {bit} wrong, mended {mended} {kind}")
+            }
+            Finding::PastMending => f.write_str("past mending"),
+        }
     }
 }

@@ -22,7 +22,8 @@ fn run(rt: &HostRuntime) -> anyhow::Result<()> {
     let mut input = BufReader::new(rt.alloc(), rt.stdin())?;
     let mut line = Vec::new(rt.alloc());
     let mut tally = Tally::new();
-    // Nothing says that an input ends, so the numbers of its lines bound the loop.
+    // Nothing says that an input ends, so the numbers of its lines bound the loop: a `while` over its lines would have no measure, and
+    // `split` would not tell whether the last line has an end.
     for line_number in 1..u64::MAX {
         line.clear();
         if input.read_until(b'\n', &mut line)? == 0 {
@@ -36,8 +37,8 @@ fn run(rt: &HostRuntime) -> anyhow::Result<()> {
 
 fn print(rt: &HostRuntime, remark: Remark) -> io::Result<()> {
     match remark {
-        Remark::Nothing => Ok(()),
-        Remark::Report(report) => rt.println(report),
-        Remark::Complaint(complaint) => rt.println(complaint),
+        Ok(Some(report)) => rt.println(report),
+        Ok(None) => Ok(()),
+        Err(complaint) => rt.println(complaint),
     }
 }

@@ -2,7 +2,7 @@
 ghost use Rattle.std.specs.Prelude.{◌≡◌};
 ghost use Rattle.cell.specs.LineHeader.{bits40};
 ghost use Rattle.headers.specs.Finding.{CleanSent, OneMended, TwoFound};
-ghost use Rattle.headers.specs.Report.{name_of, report_of};
+ghost use Rattle.headers.specs.Report.{report_of};
 
 use crate::finding::Finding;
 use cell::header::{Fields, Kind};
@@ -10,7 +10,7 @@ use cell::line_header::LineHeader;
 use std::fmt;
 
 // A header as received, and all that follows from it.
-#[derive(Clone, Copy, Drop)]
+#[derive(Clone, Copy, Debug, PartialEq, Eq)]
 pub struct Report {
     pub line_number: u64,
     pub received: LineHeader,
@@ -23,7 +23,7 @@ pub struct Report {
 
 impl Report {
     // All that follows from a header as received. One wrong bit is mended, and two are found out.
-    pub fn of(line_number: u64, received: LineHeader) -> Report
+    pub fn new(line_number: u64, received: LineHeader) -> Report
         ensures value { result ≡ report_of line_number received }
         ensures clean { CleanSent (bits40 received) result.finding }
         ensures one { OneMended (bits40 received) result.finding }
@@ -36,44 +36,7 @@ impl Report {
             connection: received.header.connection(),
             kind: received.header.kind(),
             syndrome: received.syndrome(),
-            finding: Finding::of(received),
-        }
-    }
-}
-
-// The name of a kind of cell.
-fn name(kind: Kind) -> &'static str
-    ensures { result.now ≡ name_of kind }
-{
-    match kind {
-        Kind::Idle => "idle",
-        Kind::F3 => "F3",
-        Kind::User => "user",
-    }
-}
-
-// The five octets of a header on the line.
-#[derive(Drop)]
-struct Octets(LineHeader);
-
-impl fmt::Display for Octets {
-    fn fmt<W: fmt::Write>(&self, f: &mut fmt::Formatter<W>) -> fmt::Result {
-        let [a, b, c, d] = self.0.header.0.to_be_bytes();
-        let hec = self.0.hec;
-        write!(f, "{a:02X} {b:02X} {c:02X} {d:02X} {hec:02X}")
-    }
-}
-
-impl fmt::Display for Finding {
-    fn fmt<W: fmt::Write>(&self, f: &mut fmt::Formatter<W>) -> fmt::Result {
-        match *self {
-            Finding::Clean => f.write_str("clean"),
-            Finding::OneWrongBit(bit, mended, kind) => {
-                let octets = Octets(mended);
-                let name = name(kind);
-                write!(f, "bit {bit} wrong, mended {octets} {name}")
-            }
-            Finding::PastMending => f.write_str("past mending"),
+            finding: Finding::from(received),
         }
     }
 }
@@ -96,11 +59,9 @@ impl fmt::Display for Report {
             pt,
             clp,
         } = fields;
-        let octets = Octets(received);
-        let name = name(kind);
         write!(
             f,
-            "{line_number:>5}  {octets}  {name:<4}  GFC {gfc:>2}  VPI {vpi:>3}  VCI {vci:>5}  PT {pt}  CLP {clp}  "
+            "{line_number:>5}  {received}  {kind:<4}  GFC {gfc:>2}  VPI {vpi:>3}  VCI {vci:>5}  PT {pt}  CLP {clp}  "
         )?;
         write!(
             f,

@@ -1,3 +1,4 @@
 pub mod Posting
 pub mod Runs
 pub mod Octets
+pub mod Events

@@ -4,7 +4,9 @@
 --   record_of n e    the event e as a ring holds it, where n is the number of the last bit seen
 --   Undoes x r       r is the one event that has the numbers of the record x, or an error where no event has them
 --   event_words e    the event e in words
-use Rattle.std.specs.Prelude.{◌≡◌, ℕ, List, Ok, Result, codes}
+--   event_of n       the event that has the numbers n, if one has
+--   record_words x   the record x in words: the number of the bit, and the event, or the numbers where no event has them
+use Rattle.std.specs.Prelude.{◌≡◌, ℕ, ◌&&◌, Bool, List, [], ◌∷◌, ◌++◌, find, Some, None, Option, Ok, Result, codes, decimal, ◌==◌}
 use Rattle.tracker.specs.declared.events.HeaderCause.TheVariants.{Mended, Discarded}
 use Rattle.tracker.specs.declared.events.BoundaryCause.TheVariants as boundary
 use Rattle.tracker.specs.declared.events.DescramblerCause.TheVariants as descrambler
@@ -46,3 +48,20 @@ event_words (Descrambler descrambler.Steady) = codes "descrambler: steady state"
 event_words (Descrambler descrambler.LeftForAcquisition) = codes "descrambler: back to acquisition"
 event_words (Sink sink.Full) = codes "sink: full"
 event_words (Sink sink.NotServed) = codes "sink: not served"
+
+abbrev pub all_events : List Event
+all_events =
+    Header Mended ∷ Header Discarded ∷ Boundary boundary.Presync ∷ Boundary boundary.Sync ∷ Boundary boundary.LostFromPresync
+    ∷ Boundary boundary.LostFromSync ∷ Descrambler descrambler.Verification ∷ Descrambler descrambler.Steady
+    ∷ Descrambler descrambler.LeftForAcquisition ∷ Sink sink.Full ∷ Sink sink.NotServed ∷ []
+
+abbrev pub has_numbers : ℕ × ℕ → Event → Bool
+has_numbers n e = (event_numbers e).0 == n.0 && (event_numbers e).1 == n.1
+
+unfoldable pub event_of : ℕ × ℕ → Option Event
+event_of n = find (has_numbers n) all_events
+
+abbrev pub record_words : EventRecord → List ℕ
+record_words x =
+    codes "bit " ++ decimal x.bit ++ codes ": "
+    ++ elim (event_of (x.layer, x.cause)) [ None ↦ codes "layer " ++ decimal x.layer ++ codes ", cause " ++ decimal x.cause | Some e ↦ event_words e ]

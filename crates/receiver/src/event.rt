@@ -1,6 +1,6 @@
 // Events, by layers, and the plain numbers that stand for them in a ring.
 ghost use Rattle.std.specs.Prelude.{◌≡◌, Some, codes};
-ghost use Rattle.receiver.specs.Event.{event_numbers, record_of, Undoes, event_words};
+ghost use Rattle.receiver.specs.Event.{event_numbers, record_of, Undoes, event_words, record_words};
 
 use std::error::Error;
 use std::fmt;
@@ -109,11 +109,16 @@ impl fmt::Display for Event {
 }
 
 impl fmt::Display for EventRecord {
+    ghost output = { λ x. Some (record_words x) };
+
     fn fmt<W: fmt::Write>(&self, f: &mut fmt::Formatter<W>) -> fmt::Result {
-        write!(f, "bit {}: ", self.bit)?;
         match Event::try_from(*self) {
-            Ok(event) => write!(f, "{event}"),
-            Err(UnknownEvent) => write!(f, "layer {}, cause {}", self.layer, self.cause),
+            Ok(event) => write!(f, "bit {}: {event}", self.bit),
+            Err(UnknownEvent) => write!(
+                f,
+                "bit {}: layer {}, cause {}",
+                self.bit, self.layer, self.cause
+            ),
         }
     }
 }

@@ -10,12 +10,12 @@ use Rattle.receiver.specs.declared.book.Book.{Book}
 use Rattle.receiver.specs.declared.book.Counters.{Counters}
 use Rattle.receiver.specs.declared.event.Event.{Event}
 use Rattle.receiver.specs.declared.event.EventRecord.{EventRecord}
-use Rattle.receiver.specs.Book.{log_of, bump, counters_of, counting, lost, posted}
+use Rattle.receiver.specs.Book.{log_of, bump, counting, lost, posted}
 use Rattle.receiver.specs.Event.{record_of}
 
 -- the counters with so many events lost
 abbrev pub losing : Counters → ℕ → Counters
-losing c n = counters_of c.taken c.mended c.discarded c.full c.unserved c.f3 n
+losing c n = record c { lost = n }
 
 module _ (k : Book) (e : Event) (ring ring' : Ring EventRecord) where
   posted_free : (x : EventRecord) → x ≡ record_of k.bits e → Pushed ring x ring' → log_of k ring' ≡ posted (log_of k ring) e

@@ -47,12 +47,12 @@ log_of book ring = record { book = book; events = held ring; places = places rin
 
 -- ---- the book
 
-abbrev pub counters_of : ℕ → ℕ → ℕ → ℕ → ℕ → ℕ → ℕ → Counters
-counters_of taken mended discarded full unserved f3 lost =
-    record { taken = taken; mended = mended; discarded = discarded; full = full; unserved = unserved; f3 = f3; lost = lost }
-
 abbrev pub blank : Book
-blank = record { counters = counters_of 0 0 0 0 0 0 0; bits = 0; f3 = replicate 48 0 }
+blank = record {
+  counters = record { taken = 0; mended = 0; discarded = 0; full = 0; unserved = 0; f3 = 0; lost = 0 };
+  bits = 0;
+  f3 = replicate 48 0;
+}
 
 abbrev pub bump : ℕ → ℕ
 bump n = min (n + 1) 4294967295
@@ -61,35 +61,35 @@ abbrev pub bits_on : ℕ → ℕ
 bits_on n = cond (nat_lt n (2 ^ 63 - 1)) (n + 1) (2 ^ 63 - 1)
 
 abbrev pub bit_counted : Book → Book
-bit_counted k = record { counters = k.counters; bits = bits_on k.bits; f3 = k.f3 }
+bit_counted k = record k { bits = bits_on k.bits }
 
 -- the book with other counters
 abbrev pub counting : Book → Counters → Book
-counting k c = record { counters = c; bits = k.bits; f3 = k.f3 }
+counting k c = record k { counters = c }
 
 abbrev pub took_one : Counters → Counters
-took_one c = counters_of (bump c.taken) c.mended c.discarded c.full c.unserved c.f3 c.lost
+took_one c = record c { taken = bump c.taken }
 
 abbrev pub mended_one : Counters → Counters
-mended_one c = counters_of c.taken (bump c.mended) c.discarded c.full c.unserved c.f3 c.lost
+mended_one c = record c { mended = bump c.mended }
 
 abbrev pub discarded_one : Counters → Counters
-discarded_one c = counters_of c.taken c.mended (bump c.discarded) c.full c.unserved c.f3 c.lost
+discarded_one c = record c { discarded = bump c.discarded }
 
 abbrev pub full_one : Counters → Counters
-full_one c = counters_of c.taken c.mended c.discarded (bump c.full) c.unserved c.f3 c.lost
+full_one c = record c { full = bump c.full }
 
 abbrev pub unserved_one : Counters → Counters
-unserved_one c = counters_of c.taken c.mended c.discarded c.full (bump c.unserved) c.f3 c.lost
+unserved_one c = record c { unserved = bump c.unserved }
 
 abbrev pub f3_one : Counters → Counters
-f3_one c = counters_of c.taken c.mended c.discarded c.full c.unserved (bump c.f3) c.lost
+f3_one c = record c { f3 = bump c.f3 }
 
 abbrev pub lost_one : Counters → Counters
-lost_one c = counters_of c.taken c.mended c.discarded c.full c.unserved c.f3 (bump c.lost)
+lost_one c = record c { lost = bump c.lost }
 
 abbrev pub f3_stored : List ℕ → Book → Book
-f3_stored p k = record { counters = f3_one k.counters; bits = k.bits; f3 = p }
+f3_stored p k = record k { counters = f3_one k.counters; f3 = p }
 
 abbrev pub marked : Option HeaderCause → Book → Book
 marked None k = k
@@ -102,12 +102,12 @@ lost k = counting k (lost_one k.counters)
 -- ---- the book and the ring
 
 abbrev pub booked : Book → Log → Log
-booked k g = record { book = k; events = g.events; places = g.places }
+booked k g = record g { book = k }
 
 unfoldable pub posted : Log → Event → Log
 posted g e =
     cond (nat_lt (length g.events) g.places)
-    (record { book = g.book; events = g.events ++ record_of g.book.bits e ∷ []; places = g.places })
+    (record g { events = g.events ++ record_of g.book.bits e ∷ [] })
     (booked (lost g.book) g)
 
 abbrev pub posted_if : Log → Option Event → Log

@@ -18,6 +18,7 @@ use tracker::tracker::Moment;
 // A feed takes no more octets than this.
 pub const MOST_OCTETS: usize = 4096;
 
+// The sink and the ring stay two parameters: each of the calls below would have to say of a struct of loans that it still holds the same.
 impl Receiver {
     // Sorts a kept cell: idle cells vanish, the payload of an F3 cell is stored, a user cell is handed up.
     fn deliver<S: Sink>(

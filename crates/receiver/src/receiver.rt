@@ -15,6 +15,14 @@ pub struct Receiver {
     pub(crate) book: Book,
 }
 
+impl Default for Receiver {
+    ghost is_default = { λ r. r ≡ made };
+
+    fn default() -> Receiver {
+        Receiver::new()
+    }
+}
+
 impl Receiver {
     // A receiving end that has seen no bit: HUNT, Acquisition with confidence 0, correction mode, all counters zero.
     pub fn new() -> Receiver

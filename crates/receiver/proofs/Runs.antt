@@ -83,9 +83,15 @@ bits_of_append [] ys = refl
 bits_of_append (x ∷ xs) ys = ap (λ l. octet_bits x ++ l) (bits_of_append xs ys) ∙ sym (append_assoc (octet_bits x) (bits_of xs) (bits_of ys))
 
 -- one octet more
-pub bits_more : (os : List ℕ) (i : ℕ) → i < length os → bits_of (take (i + 1) os) ≡ bits_of (take i os) ++ octet_bits (get_or os i 0)
+bits_more : (os : List ℕ) (i : ℕ) → i < length os → bits_of (take (i + 1) os) ≡ bits_of (take i os) ++ octet_bits (get_or os i 0)
 bits_more os i h =
     ap bits_of (take_more os i 0 h) ∙ bits_of_append (take i os) (get_or os i 0 ∷ []) ∙ ap (λ l. bits_of (take i os) ++ l) (append-nil (octet_bits (get_or os i 0)))
+
+-- a run over one octet more
+module _ {r r' r'' : Receiver} {k k' k'' : SinkState} {q q' q'' : Events} {n m : ℕ} (os : List ℕ) (i : ℕ) where
+  pub works_octet : i < length os → Works r k q (bits_of (take i os)) n r' k' q' → Works r' k' q' (octet_bits (get_or os i 0)) m r'' k'' q''
+      → Works r k q (bits_of (take (i + 1) os)) (n + m) r'' k'' q''
+  works_octet h a b = rw (bits_more os i h) (works_then a b)
 
 -- a feed, once its last octet is worked
 pub feeds : (os : List ℕ) (i : ℕ) (r r' : Receiver) (k k' : SinkState) (q q' : Events) (n : ℕ) → nat_eq (length os) 0 ≡ false → length os ≤ 4096 → length os ≤ i

@@ -84,6 +84,7 @@ impl Book {
     }
 
     // Puts an event into the ring, or counts it as lost.
+    #[tactic(auto, using(crate::proofs::Posting::posted_room, crate::proofs::Posting::posted_full))]
     fn post(&mut self, events: &mut Ring<'_, EventRecord>, event: Event)
         ensures { log_of self.new events.new ≡ posted (log_of self.old events.old) event }
     {

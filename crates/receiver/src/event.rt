@@ -111,6 +111,7 @@ impl fmt::Display for Event {
 impl fmt::Display for EventRecord {
     ghost output = { λ x. Some (record_words x) };
 
+    #[tactic(auto, using(crate::proofs::Events::event_known, crate::proofs::Events::event_unknown, crate::proofs::Events::event_joined, crate::proofs::Events::numbers_joined))]
     fn fmt<W: fmt::Write>(&self, f: &mut fmt::Formatter<W>) -> fmt::Result {
         match Event::try_from(*self) {
             Ok(event) => write!(f, "bit {}: {event}", self.bit),

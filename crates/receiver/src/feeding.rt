@@ -67,6 +67,7 @@ impl Receiver {
     }
 
     // One bit of the line, with all that it brings; how many cells the sink took.
+    #[tactic(auto, using(crate::proofs::Runs::works_one))]
     fn take_bit<S: Sink>(
         &mut self,
         bit: bool,
@@ -83,6 +84,7 @@ impl Receiver {
     }
 
     // One octet, the most significant bit first.
+    #[tactic(auto, using(crate::proofs::Runs::works_none, crate::proofs::Runs::works_same, crate::proofs::Octets::works_bit, crate::proofs::Octets::all_eight))]
     fn take_octet<S: Sink>(
         &mut self,
         octet: u8,
@@ -100,6 +102,7 @@ impl Receiver {
     }
 
     // Takes 1 to 4,096 octets of the line, and answers how many cells the sink took. Refuses no octets, and more than 4,096.
+    #[tactic(auto, using(crate::proofs::Runs::works_none, crate::proofs::Runs::feeds))]
     pub fn feed<S: Sink>(
         &mut self,
         octets: &[u8],
@@ -143,6 +146,7 @@ fn cells_taken(reply: Option<Result<(), SinkCause>>) -> u32
 }
 
 // What holds of runs of bits: this call does nothing, and its contract is the proof of that.
+#[tactic(auto, using(crate::proofs::Runs::feed_laws))]
 pub fn feed_laws_hold()
     ensures { FeedLaws }
 {}

@@ -2,15 +2,16 @@
 use Rattle.std.proofs.Common.{◌≡◌, ℕ, Bool, true, false, cond, eqb, List, [], ◌∷◌, ◌++◌, length, take, drop, Ok, Err, Result, sym, refl, ap, ◌∙◌, subst, append_assoc, arith, eqb-true}
 use borrow.Author.Tests.{eqb-false}
 use Rattle.std.specs.List.{AllByRecursion}
+use Rattle.std.specs.Prelude.{is_err}
 use Rattle.std.proofs.lemmas.List.{append-nil}
 use Rattle.cell.specs.Header.{connection_of}
 use Rattle.cell.specs.Sorting.{header_of}
 use Rattle.cell.specs.declared.refusal.Refusal.{Refusal}
 use Rattle.cell.specs.declared.refusal.Refusal.TheVariants.{NoOctets, TooManyOctets, BadPhase, WrongLength, ReservedHeader, NotServed, NoSpace, NoneWaiting, BadSampleWord, NoOnePhase}
 use Rattle.ports.specs.Cell.{Cell, User, of_connection}
-use Rattle.ports.specs.Drain.{Moves, Puts}
+use Rattle.ports.specs.Drain.{Moves, Stepped, Puts}
 use Rattle.ports.specs.Sink.{SinkState, Put}
-use Rattle.ports.specs.Source.{Taken, Takes}
+use Rattle.ports.specs.Source.{Taken, Looks, Takes}
 use Rattle.ports.proofs.Octets.{header_read, payload_read}
 
 -- one more cell put after the others
@@ -29,6 +30,15 @@ puts_gain (c ∷ cs) s t (u, p, q) k = puts_gain cs u t q k ∙ go (eqb (connect
         let h : u.held k ≡ s.held k ++ c ∷ [] = subst (λ (x : ℕ). u.held x ≡ s.held x ++ c ∷ []) same p.appended in
         ap (λ xs. xs ++ of_connection k cs) h ∙ append_assoc (s.held k) (c ∷ []) (of_connection k cs)
     go false e = ap (λ xs. xs ++ of_connection k cs) (p.others k (λ x. eqb-false _ _ e (sym x)))
+
+-- a look that is not refused shows the cell that waits first
+pub looked : {X : Type 0} (cells : List Cell) (place place' : List ℕ) (r : Result X Refusal) → false ≡ is_err r → Looks cells place r place' → (rest : List Cell) × Taken cells place' rest
+looked cells place place' (Ok x) f h = h.1
+looked cells place place' (Err e) f h = absurd (let z : false ≡ true = f in cc)
+
+pub moved_on : (cells rest : List Cell) (s s' : SinkState) (waited : Bool) → waited ≡ true → Stepped cells s (Ok waited) rest s' → Moves cells s rest s'
+moved_on cells rest s s' true e h = h
+moved_on cells rest s s' false e h = absurd (let z : false ≡ true = e in cc)
 
 -- a cell that was looked at, put and then taken
 module _ (cells rest rest' : List Cell) (place place' payload : List ℕ) (header : ℕ) (before after : SinkState)

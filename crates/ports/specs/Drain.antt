@@ -2,16 +2,14 @@
 --
 --   Refuses cells s e          a cell waits first, and the sink in state s refuses it with e
 --   Moves cells s rest s'      the first cell goes from the source into the sink
---   Stepped cells s r rest s'  what one step of draining does and answers
+--   Stepped cells s r rest s'  what one step of draining does and answers: whether a cell waited, or the refusal of its put
 --   Puts s cs s'               the cells cs are put one after the other
 --   Ended refusal rest s       no cell is left, or the sink refuses the first that is
 --   Drains cells s r rest s'   what draining answers, what it leaves in the source, and what it puts where:
 --                              the cells moved are those that waited first, each connection holds those of them
 --                              that belong to it behind what it held, and the answer counts them up to 2^32 - 1
-use Rattle.std.specs.Prelude.{◌≡◌, ℕ, min, List, [], ◌∷◌, ◌++◌, length, Some, None, Option}
+use Rattle.std.specs.Prelude.{◌≡◌, ℕ, min, List, [], ◌∷◌, ◌++◌, length, Bool, true, false, Ok, Err, Some, None, Option, Result}
 use Rattle.cell.specs.declared.refusal.Refusal.{Refusal}
-use Rattle.ports.specs.declared.drained.Step.{Step}
-use Rattle.ports.specs.declared.drained.Step.TheVariants.{Moved, Done, Refused}
 use Rattle.ports.specs.declared.drained.Drained.{Drained}
 use Rattle.ports.specs.Cell.{Cell, of_connection}
 use Rattle.ports.specs.Sink.{SinkState, Put, PutWhy}
@@ -27,10 +25,10 @@ pub record Moves (cells : List Cell) (s : SinkState) (rest : List Cell) (s' : Si
   pub first : cells ≡ cell ∷ rest
   pub put : Put s cell.header cell.payload s'
 
-abbrev pub Stepped : List Cell → SinkState → Step → List Cell → SinkState → Type 0
-Stepped cells s Moved rest s' = Moves cells s rest s'
-Stepped cells s Done rest s' = (cells ≡ []) × (rest ≡ cells) × (s' ≡ s)
-Stepped cells s (Refused e) rest s' = Refuses cells s e × (rest ≡ cells) × (s' ≡ s)
+abbrev pub Stepped : List Cell → SinkState → Result Bool Refusal → List Cell → SinkState → Type 0
+Stepped cells s (Ok true) rest s' = Moves cells s rest s'
+Stepped cells s (Ok false) rest s' = (cells ≡ []) × (rest ≡ cells) × (s' ≡ s)
+Stepped cells s (Err e) rest s' = Refuses cells s e × (rest ≡ cells) × (s' ≡ s)
 
 abbrev pub Puts : SinkState → List Cell → SinkState → Type 0
 Puts s [] s' = s' ≡ s

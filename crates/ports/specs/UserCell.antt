@@ -3,9 +3,10 @@
 --   cell_of u                 the cell that the record holds
 --   MakeWhy header payload e  why there is no user cell of this header and payload
 --   Makes header payload r    what making one answers
+--   IsUserPayload header payload p  p is the payload, of 48 octets, and the header is not reserved
 --   WriteWhy place e          why a cell is not written into a place
 --   Writes u place r place'   what writing one answers, and the place after it
-use Rattle.std.specs.Prelude.{◌≡◌, ℕ, true, List, length, Result, MatchResult, ◌≢◌}
+use Rattle.std.specs.Prelude.{◌≡◌, ℕ, true, false, List, length, Result, MatchResult, ◌≢◌}
 use Rattle.cell.specs.Header.{reserved}
 use Rattle.cell.specs.Refusal.{number_of}
 use Rattle.cell.specs.declared.refusal.Refusal.{Refusal}
@@ -27,6 +28,11 @@ MakeWhy header payload NoSpace = ⊥
 MakeWhy header payload NoneWaiting = ⊥
 MakeWhy header payload BadSampleWord = ⊥
 MakeWhy header payload NoOnePhase = ⊥
+
+pub record IsUserPayload (header : ℕ) (payload p : List ℕ) : Type 0 where
+  pub same : p ≡ payload
+  pub whole : length payload ≡ 48
+  pub user : reserved header ≡ false
 
 abbrev pub Makes : ℕ → List ℕ → Result UserCell Refusal → Type 0
 Makes header payload r = MatchResult r (λ u. cell_of u ≡ record { header = header; payload = payload }) (λ e. MakeWhy header payload e)

@@ -1,16 +1,14 @@
 // A ring of user cells as a source, counted, and as a sink.
-ghost use Rattle.std.specs.Prelude.{◌≡◌, length};
-ghost use Rattle.ring.specs.Ring.{held};
 ghost use Rattle.ports.specs.CellRing.{ring_cells, ring_users, ring_state, ring_bounded, RingPut, RingTake};
 ghost use Rattle.ports.specs.Sink.{PutAnswer};
 ghost use Rattle.ports.specs.Source.{Takes};
 
+use crate::checks::check_place;
 use crate::sink::Sink;
 use crate::source::{CountedSource, Source};
 use crate::user_cell::UserCell;
 use cell::header::Header;
 use cell::refusal::Refusal;
-use cell::sizes::CELL_OCTETS;
 use ring::ring::Ring;
 
 impl Source for Ring<'_, UserCell> {
@@ -19,11 +17,8 @@ impl Source for Ring<'_, UserCell> {
     ghost users = { ring_users };
 
     fn look(&self, place: &mut [u8]) -> Result<(), Refusal> {
-        if place.len() != CELL_OCTETS {
-            return Err(Refusal::WrongLength);
-        }
-        let cell = self.front()?;
-        cell.fill(place);
+        check_place(place)?;
+        place.copy_from_slice(&self.front()?.octets());
         Ok(())
     }
 
@@ -31,25 +26,16 @@ impl Source for Ring<'_, UserCell> {
         ensures answer { Takes (ring_cells self.old) place.old result place.new (ring_cells self.new) }
         ensures ring { RingTake self.old result self.new }
     {
-        if place.len() != CELL_OCTETS {
-            return Err(Refusal::WrongLength);
-        }
-        let cell = self.pop()?;
-        cell.fill(place);
+        check_place(place)?;
+        place.copy_from_slice(&self.pop()?.octets());
         Ok(())
     }
 }
 
 impl CountedSource for Ring<'_, UserCell> {
     fn count(&self) -> u32 {
-        cells_held(self)
+        self.len() as u32
     }
-}
-
-fn cells_held(ring: &Ring<'_, UserCell>) -> u32
-    ensures { result ≡ length (held ring.now) }
-{
-    ring.len() as u32
 }
 
 // It serves all user headers; all connections share its free places.
@@ -62,9 +48,6 @@ impl Sink for Ring<'_, UserCell> {
         ensures answer { PutAnswer (ring_state self.old) header.0 payload.now result (ring_state self.new) }
         ensures ring { RingPut self.old header.0 payload.now result self.new }
     {
-        match UserCell::new(header, payload) {
-            Ok(cell) => self.push(cell),
-            Err(e) => Err(e),
-        }
+        self.push(UserCell::new(header, payload)?)
     }
 }

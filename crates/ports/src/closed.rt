@@ -1,10 +1,10 @@
 // A sink that serves nothing.
 ghost use Rattle.ports.specs.Closed.{closed, closed_bounded};
 
+use crate::checks::user_payload;
 use crate::sink::Sink;
 use cell::header::Header;
 use cell::refusal::Refusal;
-use cell::sizes::PAYLOAD_OCTETS;
 
 // A sink that serves nothing.
 #[derive(Clone, Copy, Drop)]
@@ -16,12 +16,7 @@ impl Sink for Closed {
     ghost bounded = { λ _ k. closed_bounded k };
 
     fn put(&mut self, header: Header, payload: &[u8]) -> Result<(), Refusal> {
-        if payload.len() != PAYLOAD_OCTETS {
-            return Err(Refusal::WrongLength);
-        }
-        if header.is_reserved() {
-            return Err(Refusal::ReservedHeader);
-        }
+        user_payload(header, payload)?;
         Err(Refusal::NotServed)
     }
 }

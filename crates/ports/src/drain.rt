@@ -1,9 +1,9 @@
 // Draining a counted source into a sink.
-ghost use Rattle.std.specs.Prelude.{◌≡◌, ◌+◌, min, length};
-ghost use Rattle.cell.specs.Sorting.{header_of};
+ghost use Rattle.std.specs.Prelude.{◌≡◌};
+ghost use Rattle.cell.specs.Header.{header_of};
 ghost use Rattle.ports.specs.Drain.{Stepped, Drains};
 
-use crate::drained::{Drained, Step};
+use crate::drained::Drained;
 use crate::sink::Sink;
 use crate::source::{CountedSource, Source};
 use cell::header::Header;
@@ -14,54 +14,34 @@ use cell::sizes::{CELL_OCTETS, HEADER_OCTETS};
 pub fn drain<S: CountedSource, K: Sink>(from: &mut S, to: &mut K) -> Drained
     ensures { Drains (S.Source.waiting from.old) (K.Sink.state to.old) result (S.Source.waiting from.new) (K.Sink.state to.new) }
 {
-    let mut moved = 0;
-    loop {
+    let mut moved: u32 = 0;
+    let refusal = loop {
         match step(from, to) {
-            Step::Moved => moved = one_more(moved),
-            Step::Done => {
-                return Drained {
-                    moved,
-                    refusal: None,
-                };
-            }
-            Step::Refused(e) => {
-                return Drained {
-                    moved,
-                    refusal: Some(e),
-                };
-            }
+            Ok(true) => moved = moved.saturating_add(1),
+            Ok(false) => break None,
+            Err(refusal) => break Some(refusal),
         }
-    }
+    };
+    Drained { moved, refusal }
 }
 
-fn one_more(count: u32) -> u32
-    ensures { result ≡ min (count + 1) 4294967295 }
-{
-    count.saturating_add(1)
-}
-
-// Moves the first cell, unless none waits or the sink refuses it: it is taken only once it was put.
-fn step<S: Source, K: Sink>(from: &mut S, to: &mut K) -> Step
+// Moves the first cell, and answers whether one waited. The cell is taken only once it was put: one that the sink refuses stays.
+fn step<S: Source, K: Sink>(from: &mut S, to: &mut K) -> Result<bool, Refusal>
     ensures { Stepped (S.Source.waiting from.old) (K.Sink.state to.old) result (S.Source.waiting from.new) (K.Sink.state to.new) }
 {
     let mut place = [0; CELL_OCTETS];
-    if let Err(_) = from.look(&mut place) {
-        return Step::Done;
+    if from.look(&mut place).is_err() {
+        return Ok(false);
     }
-    let header = header_in(&place);
-    match to.put(header, &place[HEADER_OCTETS..CELL_OCTETS]) {
-        Ok(()) => {
-            let _ = from.take(&mut place);
-            Step::Moved
-        }
-        Err(e) => Step::Refused(e),
-    }
+    to.put(header_in(&place), &place[HEADER_OCTETS..])?;
+    let _ = from.take(&mut place);
+    Ok(true)
 }
 
 // The header that the first four octets write.
-fn header_in(octets: &[u8]) -> Header
-    requires { length octets.now ≡ 52 }
+fn header_in(octets: &[u8; CELL_OCTETS]) -> Header
     ensures { result.0 ≡ header_of octets.now }
 {
-    Header(u32::from_be_bytes([octets[0], octets[1], octets[2], octets[3]]))
+    let [a, b, c, d, ..] = *octets;
+    Header::from([a, b, c, d])
 }

@@ -2,6 +2,7 @@
 #![tactic(auto)]
 
 pub mod cell_ring;
+pub mod checks;
 pub mod closed;
 pub mod drain;
 pub mod drained;

@@ -1,5 +1,5 @@
 // Two sources in a row.
-ghost use Rattle.std.specs.Prelude.{◌≡◌, ◌+◌, min, ◌++◌};
+ghost use Rattle.std.specs.Prelude.{◌++◌};
 ghost use Rattle.ports.specs.Cell.{User};
 ghost use Rattle.std.proofs.ByRecursion.{All-append};
 
@@ -35,12 +35,6 @@ impl<P: Source, Q: Source> Source for Pair<P, Q> {
 
 impl<P: CountedSource, Q: CountedSource> CountedSource for Pair<P, Q> {
     fn count(&self) -> u32 {
-        together(self.first.count(), self.second.count())
+        self.first.count().saturating_add(self.second.count())
     }
-}
-
-fn together(first: u32, second: u32) -> u32
-    ensures { result ≡ min (first + second) 4294967295 }
-{
-    first.saturating_add(second)
 }

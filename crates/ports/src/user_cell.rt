@@ -8,7 +8,7 @@ use cell::sizes::PAYLOAD_OCTETS;
 mod calls;
 
 // A user cell: no value carries a reserved header.
-#[derive(Clone, Copy)]
+#[derive(Clone, Copy, Debug, PartialEq, Eq)]
 pub struct UserCell {
     header: Header,
     payload: [u8; PAYLOAD_OCTETS],

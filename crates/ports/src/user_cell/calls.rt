@@ -1,30 +1,22 @@
 // Making a user cell, and writing it out.
-ghost use Rattle.std.specs.Prelude.{◌≡◌, length, replicate};
+ghost use Rattle.std.specs.Prelude.{◌≡◌, replicate};
 ghost use Rattle.ports.specs.Cell.{Cell, octets};
 ghost use Rattle.ports.specs.UserCell.{cell_of, Makes, Writes};
 
 use super::UserCell;
+use crate::checks::{check_place, user_payload};
 use cell::header::Header;
+use cell::octets::cell_octets;
 use cell::refusal::Refusal;
-use cell::sizes::{CELL_OCTETS, HEADER_OCTETS, PAYLOAD_OCTETS};
+use cell::sizes::{CELL_OCTETS, PAYLOAD_OCTETS};
 
 impl UserCell {
     // A cell of this header and payload. Refuses a payload not of 48 octets, and a reserved header.
     pub fn new(header: Header, payload: &[u8]) -> Result<UserCell, Refusal>
         ensures { Makes header.0 payload.now result }
     {
-        if payload.len() != PAYLOAD_OCTETS {
-            return Err(Refusal::WrongLength);
-        }
-        if header.is_reserved() {
-            return Err(Refusal::ReservedHeader);
-        }
-        let mut held = [0; PAYLOAD_OCTETS];
-        held.copy_from_slice(payload);
-        Ok(UserCell {
-            header,
-            payload: held,
-        })
+        let payload = *user_payload(header, payload)?;
+        Ok(UserCell { header, payload })
     }
 
     // A cell of zeros, for places that no cell has come to yet.
@@ -37,22 +29,19 @@ impl UserCell {
         }
     }
 
+    // The 52 octets of the cell.
+    pub fn octets(&self) -> [u8; CELL_OCTETS]
+        ensures { result ≡ octets (cell_of self.now) }
+    {
+        cell_octets(self.header, &self.payload)
+    }
+
     // Writes the 52 octets of the cell. Refuses a place of another length.
     pub fn write(&self, place: &mut [u8]) -> Result<(), Refusal>
         ensures { Writes self.now place.old result place.new }
     {
-        if place.len() != CELL_OCTETS {
-            return Err(Refusal::WrongLength);
-        }
-        self.fill(place);
+        check_place(place)?;
+        place.copy_from_slice(&self.octets());
         Ok(())
-    }
-
-    pub(crate) fn fill(&self, place: &mut [u8])
-        requires { length place.old ≡ 52 }
-        ensures { place.new ≡ octets (cell_of self.now) }
-    {
-        place[0..HEADER_OCTETS].copy_from_slice(&self.header.0.to_be_bytes());
-        place[HEADER_OCTETS..CELL_OCTETS].copy_from_slice(&self.payload);
     }
 }

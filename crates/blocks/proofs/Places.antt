@@ -1,5 +1,7 @@
 -- A payload stored in the first free place of a block is put into it as a sink.
-use Rattle.std.proofs.Common.{◌≡◌, ℕ, ◌+◌, ◌-◌, ◌*◌, ◌/◌, ◌<◌, ◌≤◌, Bool, true, false, cond, eqb, List, [], ◌∷◌, ◌++◌, map, length, take, drop, sym, refl, ap, ◌∙◌, append_assoc, arith}
+use Rattle.std.proofs.Common.{◌≡◌, ℕ, ◌+◌, ◌-◌, ◌*◌, ◌/◌, ◌<◌, ◌≤◌, Bool, true, false, cond, not, eqb, List, [], ◌∷◌, ◌++◌, map, length, take, drop, sym, refl, ap, ◌∙◌, append_assoc, arith, eqb-true}
+use borrow.Rule.Slice.PartMut.{put_mid}
+use Rattle.std.proofs.lemmas.Slice.{put_mid-paste}
 use lib.Seq.{paste}
 use Rattle.std.specs.List.{range_with_len}
 use Rattle.std.proofs.lemmas.List.FromFn.{fill_by_all, get_or-map-range_with_len, length-map-range_with_len, map-range_with_len_more}
@@ -49,6 +51,19 @@ module _ (block payload : List ℕ) (f : ℕ) (room : 48 * f + 48 ≤ length blo
 fall : (b : Bool) (places filled : ℕ) → (cond b (places - (filled + 1)) 0 ≤ cond b (places - filled) 0) × (cond b (places - filled) 0 ≤ cond b (places - (filled + 1)) 0 + 1)
 fall true places filled = (omega arith, omega arith)
 fall false places filled = (omega arith, omega arith)
+
+pub served : (a b : ℕ) → false ≡ not (eqb a b) → a ≡ b
+served a b e = go (eqb a b) refl e
+  where
+    go : (t : Bool) → eqb a b ≡ t → false ≡ not t → a ≡ b
+    go true h e = eqb-true a b h
+    go false h e = absurd (let z : false ≡ true = e in cc)
+
+-- after a write to the 48 octets from `at` on
+pub written_at : (block payload part : List ℕ) (at k : ℕ) → part ≡ payload → length payload ≡ 48 → k ≡ 48 → put_mid at k block part ≡ paste block at payload 48
+written_at block payload part at k e n h = put_mid-paste at k block part payload 48 e (sym h) (sym n)
+
+pub ruleset storing = (written_at)
 
 -- the state of a block sink after a put
 pub put_in_block : (b b' : BlockSink) (header : ℕ) (payload : List ℕ) → length payload ≡ 48 → reserved header ≡ false → header ≡ b.header.0 →

@@ -1,12 +1,11 @@
 -- Blocks of octets, cut into payloads of 48.
 --
---   payload_at block i           payload number i of a block, filled with zeros where the block ends
---   payload_count block          how many payloads a block is cut into; the last one may be filled
---   cells_from header block i n  the cells of payloads number i to n - 1, under one header
---   cells_of header block        the cells of all payloads of a block
---   place_at block i             what stands in payload place number i of a block
---   cells_in header block n      the cells in its first n payload places, under one header
-use Rattle.std.specs.Prelude.{ℕ, ◌+◌, ◌-◌, ◌*◌, ◌/◌, List, map, length, take, drop, slice_index}
+--   payload_at block i       payload number i of a block, filled with zeros where the block ends
+--   payload_count block      how many payloads a block is cut into; the last one may be filled
+--   cells_of header block    the cells of all payloads of a block, under one header
+--   place_at block i         what stands in payload place number i of a block
+--   cells_in header block n  the cells in its first n payload places, under one header
+use Rattle.std.specs.Prelude.{ℕ, ◌+◌, ◌*◌, ◌/◌, List, map, length, take, drop, slice_index}
 use Rattle.std.specs.List.{range_with_len}
 use Rattle.ports.specs.Cell.{Cell}
 
@@ -16,11 +15,8 @@ payload_at block i = map (λ k. slice_index block (48 * i + k)) (range_with_len 
 abbrev pub payload_count : List ℕ → ℕ
 payload_count block = (length block + 47) / 48
 
-abbrev pub cells_from : ℕ → List ℕ → ℕ → ℕ → List Cell
-cells_from header block i n = map (λ k. record { header = header; payload = payload_at block k }) (range_with_len i (n - i))
-
 abbrev pub cells_of : ℕ → List ℕ → List Cell
-cells_of header block = cells_from header block 0 (payload_count block)
+cells_of header block = map (λ k. record { header = header; payload = payload_at block k }) (range_with_len 0 (payload_count block))
 
 unfoldable pub place_at : List ℕ → ℕ → List ℕ
 place_at block i = take 48 (drop (48 * i) block)

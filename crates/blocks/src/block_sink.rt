@@ -6,7 +6,8 @@ use cell::header::Header;
 mod calls;
 mod places;
 
-pub use places::MOST_PAYLOADS;
+// A block sink fills no more payload places than this.
+pub const MOST_PAYLOADS: usize = 1365;
 
 // A lent block that takes the payloads of one header, in order.
 #[derive(Drop)]

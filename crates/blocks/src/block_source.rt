@@ -5,18 +5,17 @@ ghost use Rattle.cell.specs.Header.{reserved};
 use cell::header::Header;
 
 mod calls;
-mod payloads;
 
-pub use payloads::MOST_OCTETS;
+// A block source uses no more octets of its block than this.
+pub const MOST_OCTETS: usize = 65_536;
 
 // A lent block, cut into payloads under one header.
 #[derive(Drop)]
 pub struct BlockSource<'a> {
-    block: &'a [u8],
+    // the octets that were not taken yet
+    rest: &'a [u8],
     header: Header,
-    // the number of the payload that goes next
-    next: usize,
-    ghost small: { length block.now ≤ 65536 },
+    ghost small: { length rest.now ≤ 65536 },
     ghost fits: { header.0 < 2 ^ 32 },
-    ghost user: { (reserved header.0 ≡ true → length block.now ≡ 0) },
+    ghost user: { (reserved header.0 ≡ true → length rest.now ≡ 0) },
 }

@@ -1,18 +1,8 @@
 // The payload places of a block sink: how many there are, and how many are filled.
-ghost use Rattle.std.specs.Prelude.{◌≡◌, ◌/◌, min, length, nat_le};
+ghost use Rattle.std.specs.Prelude.{◌≡◌, ◌/◌, length, nat_le};
 
 use super::BlockSink;
 use cell::sizes::PAYLOAD_OCTETS;
-
-// A block sink fills no more payload places than this.
-pub const MOST_PAYLOADS: usize = 1365;
-
-// How many octets of a block are used.
-pub(super) fn octets_used(lent: usize) -> usize
-    ensures { result ≡ min lent 65520 }
-{
-    lent.min(PAYLOAD_OCTETS * MOST_PAYLOADS)
-}
 
 impl<'a> BlockSink<'a> {
     // How many payload places are filled.

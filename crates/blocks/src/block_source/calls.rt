@@ -1,46 +1,42 @@
 // Making a block source, and taking its cells.
-ghost use Rattle.std.specs.Prelude.{◌≡◌, ◌-◌, ◌≤◌, nat_le};
-ghost use Rattle.blocks.specs.Block.{payload_count};
-ghost use Rattle.blocks.specs.BlockSource.{block_cells, block_users, source_of, Passed};
+ghost use Rattle.std.specs.Prelude.{◌≡◌, drop};
+ghost use Rattle.blocks.specs.Block.{payload_at};
+ghost use Rattle.blocks.specs.BlockSource.{block_cells, block_users, source_of};
 
-use super::BlockSource;
-use super::payloads::{octets_used, payload_count, write_cell};
+use super::{BlockSource, MOST_OCTETS};
 use cell::header::Header;
+use cell::octets::cell_octets;
 use cell::refusal::Refusal;
-use cell::sizes::CELL_OCTETS;
+use cell::sizes::PAYLOAD_OCTETS;
+use ports::checks::check_place;
 use ports::source::{CountedSource, Source};
 
 impl<'a> BlockSource<'a> {
     // The payloads of a block, at most of its first 65,536 octets, the last filled with zeros. Under a reserved header there are none.
+    #[tactic(auto, using(crate::proofs::Cuts::cut))]
     pub fn new(header: Header, block: &'a [u8]) -> BlockSource<'a>
         ensures { block_cells result ≡ source_of header.0 block.now }
     {
-        let used = octets_used(header, block.len());
+        let used = if header.is_reserved() {
+            0
+        } else {
+            block.len().min(MOST_OCTETS)
+        };
         BlockSource {
-            block: &block[0..used],
+            rest: &block[..used],
             header,
-            next: 0,
         }
     }
 
-    fn is_spent(&self) -> bool
-        ensures { result ≡ nat_le (payload_count self.now.block.now) self.now.next }
-    {
-        payload_count(self.block.len()) <= self.next
-    }
-
     // Goes on to the next payload.
+    #[tactic(auto, using(crate::proofs::Cuts::left_over))]
     fn pass(&mut self)
-        requires { self.old.next ≤ 1366 }
-        ensures { Passed self.old self.new }
+        ensures header { self.new.header.0 ≡ self.old.header.0 }
+        ensures rest { self.new.rest.now ≡ drop 48 self.old.rest.now }
     {
-        self.next += 1;
-    }
-
-    fn left(&self) -> u32
-        ensures { result ≡ payload_count self.now.block.now - self.now.next }
-    {
-        payload_count(self.block.len()).saturating_sub(self.next) as u32
+        let rest = self.rest;
+        let used = rest.len().min(PAYLOAD_OCTETS);
+        self.rest = &rest[used..];
     }
 }
 
@@ -50,31 +46,35 @@ impl Source for BlockSource<'_> {
     ghost users = { block_users };
 
     fn look(&self, place: &mut [u8]) -> Result<(), Refusal> {
-        if place.len() != CELL_OCTETS {
-            return Err(Refusal::WrongLength);
-        }
-        if self.is_spent() {
+        check_place(place)?;
+        if self.rest.is_empty() {
             return Err(Refusal::NoneWaiting);
         }
-        write_cell(self.header, self.block, self.next, place);
+        place.copy_from_slice(&cell_octets(self.header, &first_payload(self.rest)));
         Ok(())
     }
 
     fn take(&mut self, place: &mut [u8]) -> Result<(), Refusal> {
-        if place.len() != CELL_OCTETS {
-            return Err(Refusal::WrongLength);
-        }
-        if self.is_spent() {
-            return Err(Refusal::NoneWaiting);
-        }
-        write_cell(self.header, self.block, self.next, place);
+        self.look(place)?;
         self.pass();
         Ok(())
     }
 }
 
 impl CountedSource for BlockSource<'_> {
+    #[tactic(auto, using(crate::proofs::Cuts::cells_counted))]
     fn count(&self) -> u32 {
-        self.left()
+        self.rest.len().div_ceil(PAYLOAD_OCTETS) as u32
     }
+}
+
+// The first payload of a block, filled with zeros where the block ends.
+#[tactic(auto, using(crate::proofs::Cuts::first_of))]
+fn first_payload(block: &[u8]) -> [u8; PAYLOAD_OCTETS]
+    ensures { result ≡ payload_at block.now 0 }
+{
+    let used = block.len().min(PAYLOAD_OCTETS);
+    let mut payload = [0; PAYLOAD_OCTETS];
+    payload[..used].copy_from_slice(&block[..used]);
+    payload
 }

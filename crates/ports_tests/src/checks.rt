@@ -1,9 +1,10 @@
-// What a helper of the tests checks: it has no handle, so that it answers with a failure.
+// What the tests check.
 ghost use Rattle.std.specs.Prelude.{IfOk, IsTrue};
 
+use cell::refusal::Refusal;
 use std::test::Fail;
 
-// A failure, unless it holds.
+// A failure, unless it holds. It is for helpers, which have no handle.
 pub fn check(holds: bool) -> Result<(), Fail>
     ensures { IfOk result (λ _. IsTrue holds) }
 {
@@ -12,4 +13,9 @@ pub fn check(holds: bool) -> Result<(), Fail>
     } else {
         Err(Fail::new("a check of a helper failed"))
     }
+}
+
+// The number of a refusal, if it is one.
+pub fn refused<T: Drop>(answer: Result<T, Refusal>) -> Option<u8> {
+    answer.err().map(Refusal::number)
 }

@@ -1,9 +1,8 @@
-// Tests of rings, sources, sinks and draining on real data, and a source and a sink written by hand.
+// Tests of rings, sources, sinks and draining on real data, and a source written by hand.
 #![tactic(auto)]
 
 #[cfg(test)]
 mod checks;
-pub mod closed;
 pub mod one_cell;
 #[cfg(test)]
 mod refusal_tests;

@@ -2,7 +2,7 @@
 ghost use Rattle.ports_tests.specs.ByHand.{cell_in, users_in};
 
 use cell::refusal::Refusal;
-use cell::sizes::CELL_OCTETS;
+use ports::checks::check_place;
 use ports::source::{CountedSource, Source};
 use ports::user_cell::UserCell;
 
@@ -18,34 +18,22 @@ impl Source for OneCell {
     ghost users = { λ s. users_in s.slot };
 
     fn look(&self, place: &mut [u8]) -> Result<(), Refusal> {
-        if place.len() != CELL_OCTETS {
-            return Err(Refusal::WrongLength);
-        }
-        match self.slot {
-            Some(cell) => cell.write(place),
-            None => Err(Refusal::NoneWaiting),
-        }
+        check_place(place)?;
+        let cell = self.slot.ok_or(Refusal::NoneWaiting)?;
+        place.copy_from_slice(&cell.octets());
+        Ok(())
     }
 
     fn take(&mut self, place: &mut [u8]) -> Result<(), Refusal> {
-        if place.len() != CELL_OCTETS {
-            return Err(Refusal::WrongLength);
-        }
-        match self.slot {
-            Some(cell) => {
-                self.slot = None;
-                cell.write(place)
-            }
-            None => Err(Refusal::NoneWaiting),
-        }
+        check_place(place)?;
+        let cell = self.slot.take().ok_or(Refusal::NoneWaiting)?;
+        place.copy_from_slice(&cell.octets());
+        Ok(())
     }
 }
 
 impl CountedSource for OneCell {
     fn count(&self) -> u32 {
-        match self.slot {
-            Some(_) => 1,
-            None => 0,
-        }
+        u32::from(self.slot.is_some())
     }
 }

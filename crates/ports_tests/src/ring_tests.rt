@@ -1,6 +1,5 @@
 // Rings of events in 0, 1, 1,024 and 1,025 places.
-use crate::checks::check;
-use cell::refusal::Refusal;
+use crate::checks::{check, refused};
 use ring::ring::Ring;
 use std::test::Fail;
 
@@ -20,14 +19,6 @@ fn at_bit(bit: u64) -> Event {
     }
 }
 
-// The number of a refusal, or 0.
-fn number<T: Drop>(answer: Result<T, Refusal>) -> u8 {
-    match answer {
-        Ok(_) => 0,
-        Err(e) => e.number(),
-    }
-}
-
 // Fills every place, finds the ring full, takes all out in order, finds it empty; three times, each time from one place further on.
 fn fills(slots: &mut [Event], places: u64) -> Result<(), Fail> {
     let mut ring = Ring::new(slots);
@@ -36,14 +27,14 @@ fn fills(slots: &mut [Event], places: u64) -> Result<(), Fail> {
         for bit in 0..places {
             ring.push(at_bit(bit))?;
         }
-        check(number(ring.push(at_bit(0))) == 7)?;
+        check(refused(ring.push(at_bit(0))) == Some(7))?;
         check(ring.len() as u64 == places)?;
         for bit in 0..places {
             check(ring.front()?.bit == bit)?;
             check(ring.pop()?.bit == bit)?;
         }
-        check(number(ring.front()) == 8)?;
-        check(number(ring.pop()) == 8)?;
+        check(refused(ring.front()) == Some(8))?;
+        check(refused(ring.pop()) == Some(8))?;
         check(ring.len() == 0)?;
         if places > 0 {
             ring.push(at_bit(9))?;

@@ -29,19 +29,12 @@ fn scatter(block: &mut [u8]) {
     }
 }
 
-// The octet at a place, or zero past the end.
-fn octet(block: &[u8], at: usize) -> u8 {
-    if at < block.len() { block[at] } else { 0 }
-}
-
-// Each octet received is the one that stands `from` octets further on in what was sent.
-fn agrees(received: &[u8], sent: &[u8], from: usize) -> bool {
-    for k in 0..received.len() {
-        if received[k] != octet(sent, k.saturating_add(from)) {
-            return false;
-        }
-    }
-    true
+// Each octet received is the one that was sent in its place, or zero past the end of what was sent.
+fn agrees(received: &[u8], sent: &[u8]) -> bool {
+    received
+        .iter()
+        .enumerate()
+        .all(|(k, octet)| *octet == sent.get(k).copied().unwrap_or(0))
 }
 
 // Everything from two sources through one ring into two sinks, a ring full at a time.
@@ -88,8 +81,8 @@ fn there(block: &[u8], left: &mut [u8], right: &mut [u8]) -> Result<(), Fail> {
 // And back: the same octets again.
 fn back(left: &[u8], right: &[u8], low: &mut [u8], high: &mut [u8]) -> Result<(), Fail> {
     check(carry(left, right, low, high) == 2084)?;
-    check(agrees(low, left, 0))?;
-    check(agrees(high, right, 0))
+    check(agrees(low, left))?;
+    check(agrees(high, right))
 }
 
 #[test]
@@ -99,8 +92,8 @@ fn there_and_back(rt: HostRuntime) -> Result<(), Fail> {
     let mut right = [1; 34_512];
     scatter(&mut block);
     there(&block, &mut left, &mut right)?;
-    assert!(rt; agrees(&left, &block, 0));
-    assert!(rt; agrees(&right, &block, 65_520));
+    assert!(rt; agrees(&left, &block));
+    assert!(rt; agrees(&right, &block[65_520..]));
     back(&left, &right, &mut [1; 65_520], &mut [1; 34_512])
 }
 

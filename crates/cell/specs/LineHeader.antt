@@ -3,11 +3,14 @@
 --   bits40 l, of_bits w  the 40 bits as a number, the first sent on top; the header of such a number
 --   syndrome_of l        the syndrome of a header on the line
 --   turned w i           the 40 bits w with bit i the other way
+--   octet_text o         the two hexadecimal digits of an octet
+--   line_text l          the five octets of a header on the line, with blanks between
 --   Codeword w           the 40 bits w are a header with its own check octet
 --   OneTold x v          if x was sent as a codeword and one bit came wrong, v names that bit
 --   TwoPast x v          if two bits came wrong, v is past mending
 --   Restored x i y       if bit i of x alone came wrong, y is what was sent
-use Rattle.std.specs.Prelude.{◌≡◌, ℕ, ◌+◌, ◌*◌, ◌/◌, ◌%◌, ◌^◌, ◌<◌, ◌≢◌, bit_xor}
+use Rattle.std.specs.Prelude.{◌≡◌, ℕ, ◌+◌, ◌*◌, ◌/◌, ◌%◌, ◌^◌, ◌<◌, true, List, [], ◌∷◌, ◌++◌, ◌≢◌, bit_xor, codes}
+use Rattle.std.specs.Fmt.{digit_glyph}
 use Rattle.cell.specs.CheckOctet.{syndrome}
 use Rattle.cell.specs.Verdict.{place}
 use Rattle.cell.specs.declared.line_header.LineHeader.{LineHeader}
@@ -25,6 +28,14 @@ syndrome_of l = syndrome l.header.0 l.hec
 
 abbrev pub turned : ℕ → ℕ → ℕ
 turned w i = bit_xor w (place i)
+
+abbrev pub octet_text : ℕ → List ℕ
+octet_text o = digit_glyph true (o / 16) ∷ digit_glyph true (o % 16) ∷ []
+
+abbrev pub line_text : LineHeader → List ℕ
+line_text l = let h = l.header.0 in
+    octet_text (h / 2 ^ 24 % 2 ^ 8) ++ codes " " ++ octet_text (h / 2 ^ 16 % 2 ^ 8) ++ codes " " ++ octet_text (h / 2 ^ 8 % 2 ^ 8) ++ codes " "
+    ++ octet_text (h % 2 ^ 8) ++ codes " " ++ octet_text l.hec
 
 abbrev pub Codeword : ℕ → Type 0
 Codeword w = (w < 2 ^ 40) × (syndrome (w / 2 ^ 8) (w % 2 ^ 8) ≡ 0)

@@ -1,6 +1,6 @@
 // The first five octets of a cell as a line carries them, and what to make of them.
-ghost use Rattle.std.specs.Prelude.{◌≡◌};
-ghost use Rattle.cell.specs.LineHeader.{bits40, of_bits, syndrome_of, turned, OneTold, TwoPast, Restored};
+ghost use Rattle.std.specs.Prelude.{◌≡◌, Some};
+ghost use Rattle.cell.specs.LineHeader.{bits40, of_bits, syndrome_of, turned, line_text, OneTold, TwoPast, Restored};
 ghost use Rattle.cell.specs.Verdict.{verdict_of, place};
 
 use crate::header::Header;
@@ -61,6 +61,9 @@ impl LineHeader {
 
 // The five octets as they stand on the line.
 impl fmt::Display for LineHeader {
+    ghost output = { λ l. Some (line_text l) };
+
+    #[tactic(auto, using(std::proofs::lemmas::Fmt::hex_byte))]
     fn fmt<W: fmt::Write>(&self, f: &mut fmt::Formatter<W>) -> fmt::Result {
         let LineHeader { header, hec } = *self;
         let [a, b, c, d]: [u8; HEADER_OCTETS] = header.into();

@@ -5,8 +5,11 @@
 mod tests {
     use cell::header::{Header, Kind};
     use cell::line_header::LineHeader;
+    use cell::octets::cell_octets;
+    use cell::refusal::Refusal;
     use cell::sorting::{SortedCell, sort_cell};
     use cell::verdict::Verdict;
+    use std::test::Fail;
 
     const HEADERS: [u32; 6] = [
         0x0000_0000,
@@ -66,52 +69,58 @@ mod tests {
         assert!(rt; Header(0).kind() == Kind::User);
     }
 
-    // What sorting answers, with the first octet of the payload where there is one.
-    #[derive(Clone, Copy, PartialEq, Eq, Drop)]
-    enum Answer {
-        Idle,
-        F3(u8),
-        User(u32, u8),
-        Refused(u8),
+    // The payload 17, then zeros.
+    fn payload() -> [u8; 48] {
+        let mut payload = [0; 48];
+        payload[0] = 17;
+        payload
     }
 
-    fn answer_to(octets: &[u8]) -> Answer {
-        match sort_cell(octets) {
-            Ok(SortedCell::Idle) => Answer::Idle,
-            Ok(SortedCell::F3(payload)) => Answer::F3(payload.first().copied().unwrap_or(0)),
-            Ok(SortedCell::User(header, payload)) => Answer::User(
-                header.0,
-                payload.first().copied().unwrap_or(0),
-            ),
-            Err(refusal) => Answer::Refused(refusal.number()),
-        }
-    }
-
-    // A cell whose payload is 17, then zeros.
-    fn sorted(header: u32) -> Answer {
-        let [a, b, c, d] = header.to_be_bytes();
-        let mut octets = [0u8; 52];
-        octets[0] = a;
-        octets[1] = b;
-        octets[2] = c;
-        octets[3] = d;
-        octets[4] = 17;
-        answer_to(&octets)
+    // The octets of a cell with that payload.
+    fn cell(header: u32) -> [u8; 52] {
+        let mut octets = [0; 52];
+        octets[..4].copy_from_slice(&header.to_be_bytes());
+        octets[4..].copy_from_slice(&payload());
+        octets
     }
 
     #[test]
     fn sorts_by_the_header(rt: HostRuntime) {
-        assert!(rt; sorted(0x0000_0001) == Answer::Idle);
-        assert!(rt; sorted(0x0000_0009) == Answer::F3(17));
-        assert!(rt; sorted(0x0000_0640) == Answer::User(0x640, 17));
-        assert!(rt; sorted(0x1000_0001) == Answer::User(0x1000_0001, 17));
+        let payload = payload();
+        assert!(rt; sort_cell(&cell(0x0000_0001)) == Ok(SortedCell::Idle));
+        assert!(rt; sort_cell(&cell(0x0000_0009)) == Ok(SortedCell::F3(&payload)));
+        assert!(rt; sort_cell(&cell(0x0000_0640)) == Ok(SortedCell::User(Header(0x640), &payload)));
+        assert!(rt;
+            sort_cell(&cell(0x1000_0001)) == Ok(SortedCell::User(Header(0x1000_0001), &payload))
+        );
     }
 
     #[test]
     fn sorts_52_octets_only(rt: HostRuntime) {
-        assert!(rt; answer_to(&[0; 0]) == Answer::Refused(4));
-        assert!(rt; answer_to(&[0; 51]) == Answer::Refused(4));
-        assert!(rt; answer_to(&[0; 53]) == Answer::Refused(4));
-        assert!(rt; answer_to(&[0; 52]) == Answer::User(0, 0));
+        assert!(rt; sort_cell(&[0; 0]).map_err(Refusal::number) == Err(4));
+        assert!(rt; sort_cell(&[0; 51]).map_err(Refusal::number) == Err(4));
+        assert!(rt; sort_cell(&[0; 53]).map_err(Refusal::number) == Err(4));
+        assert!(rt; sort_cell(&[0; 52]) == Ok(SortedCell::User(Header(0), &[0; 48])));
+    }
+
+    #[test]
+    fn makes_52_octets(rt: HostRuntime) {
+        assert!(rt; cell_octets(Header(0x0000_0640), &payload()) == cell(0x0000_0640));
+        assert!(rt; cell_octets(Header(0xbecf_ede9), &payload()) == cell(0xbecf_ede9));
+    }
+
+    #[test]
+    fn prints(rt: HostRuntime) -> Result<(), Fail> {
+        let alloc = rt.alloc();
+        let (idle, f3, user) = (Kind::Idle, Kind::F3, Kind::User);
+        let kinds = format!(in alloc; "{idle:<4}|{f3:<4}|{user}|")?;
+        assert!(rt; kinds.as_str() == "idle|F3  |user|");
+        let header = sent(0x0000_0001);
+        let octets = format!(in alloc; "{header}")?;
+        assert!(rt; octets.as_str() == "00 00 00 01 52");
+        let refusal = Refusal::NoneWaiting;
+        let sentence = format!(in alloc; "{refusal}")?;
+        assert!(rt; sentence.as_str() == "no cell waits in the source");
+        Ok(())
     }
 }

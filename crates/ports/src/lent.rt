@@ -1,41 +1,35 @@
-// Sources and sinks that are lent.
+// What is lent is a source or a sink as well: a `&mut` to one has its meaning.
 use crate::sink::Sink;
 use crate::source::{CountedSource, Source};
 use cell::header::Header;
 use cell::refusal::Refusal;
 
-// A lent source or sink.
-#[derive(Drop)]
-pub struct Lent<'a, S> {
-    pub inner: &'a mut S,
-}
+impl<S: Source> Source for &mut S {
+    ghost waiting = { λ s. S.Source.waiting s.now };
 
-impl<S: Source> Source for Lent<'_, S> {
-    ghost waiting = { λ s. S.Source.waiting s.inner.now };
-
-    ghost users = { λ s. S.Source.users s.inner.now };
+    ghost users = { λ s. S.Source.users s.now };
 
     fn look(&self, place: &mut [u8]) -> Result<(), Refusal> {
-        self.inner.look(place)
+        (**self).look(place)
     }
 
     fn take(&mut self, place: &mut [u8]) -> Result<(), Refusal> {
-        self.inner.take(place)
+        (**self).take(place)
     }
 }
 
-impl<S: CountedSource> CountedSource for Lent<'_, S> {
+impl<S: CountedSource> CountedSource for &mut S {
     fn count(&self) -> u32 {
-        self.inner.count()
+        (**self).count()
     }
 }
 
-impl<K: Sink> Sink for Lent<'_, K> {
-    ghost state = { λ s. K.Sink.state s.inner.now };
+impl<K: Sink> Sink for &mut K {
+    ghost state = { λ s. K.Sink.state s.now };
 
-    ghost bounded = { λ s. K.Sink.bounded s.inner.now };
+    ghost bounded = { λ s. K.Sink.bounded s.now };
 
     fn put(&mut self, header: Header, payload: &[u8]) -> Result<(), Refusal> {
-        self.inner.put(header, payload)
+        (**self).put(header, payload)
     }
 }

@@ -4,7 +4,6 @@ use blocks::block_sink::BlockSink;
 use blocks::block_source::BlockSource;
 use cell::header::Header;
 use ports::drain::drain;
-use ports::lent::Lent;
 use ports::pair::Pair;
 use ports::sink::Sink;
 use ports::source::CountedSource;
@@ -45,13 +44,10 @@ fn pass_on<P: CountedSource, Q: CountedSource, L: Sink, R: Sink>(
     left: &mut L,
     right: &mut R,
 ) -> u32 {
-    let mut from = Pair {
-        first: Lent { inner: first },
-        second: Lent { inner: second },
-    };
+    let mut from = Pair { first, second };
     let mut to = Split {
-        left: Lent { inner: left },
-        right: Lent { inner: right },
+        left,
+        right,
         boundary: BOUNDARY,
     };
     let mut moved: u32 = 0;

@@ -2,7 +2,6 @@
 use crate::calls::{Call, SinkKind};
 use cell::refusal::Refusal;
 use ports::closed::Closed;
-use ports::lent::Lent;
 use ports::sink::Sink;
 use ports::split::Split;
 use ports::user_cell::UserCell;
@@ -101,7 +100,7 @@ fn feed_split<S: Sink>(
     events: &mut Ring<'_, EventRecord>,
 ) -> Result<u32, Refusal> {
     let mut sink = Split {
-        left: Lent { inner: below },
+        left: below,
         right: Closed,
         boundary,
     };

@@ -1,17 +1,17 @@
 -- A coded header carries its samples, and a coded cell is decoded to the cell again.
-use Rattle.std.proofs.Common.{◌≡◌, ℕ, ◌+◌, ◌*◌, ◌/◌, ◌%◌, ◌^◌, ◌<◌, List, [], ◌∷◌, ◌++◌, length, get_or, drop, set, sym, refl, ap, ◌∙◌, ap₂, append-nil, mod-lt, arith, pow_pos, eq-eqb}
-use borrow.Rule.Slice.PartMut.{put_mid, post_of}
+use Rattle.std.proofs.Common.{◌≡◌, ℕ, ◌+◌, ◌*◌, ◌/◌, ◌%◌, ◌^◌, ◌<◌, List, [], ◌∷◌, ◌++◌, length, get_or, drop, replicate, set, sym, refl, ap, ◌∙◌, ap₂, append-nil, mod-lt, arith, pow_pos, eq-eqb}
+use Rattle.std.proofs.lemmas.List.{length-drop, take_all}
+use borrow.Rule.Slice.PartMut.{put_mid, mid_of}
 use lib.Arith.{digits_mod}
 use lib.Bits.{bit_xor, xor_assoc, xor_self, xor_zero_l, xor_zero_r, xor_lt}
 use Rattle.cell.specs.CheckOctet.{check_octet}
 use Rattle.cell.specs.LineHeader.{syndrome_of}
-use Rattle.cell.specs.Sorting.{header_of}
+use Rattle.cell.specs.Header.{header_of}
 use Rattle.cell.specs.declared.line_header.LineHeader.{LineHeader}
 use Rattle.cell.proofs.Fields.{level}
 use Rattle.scrambler.specs.Coding.{header_mask, sample8, sample7, samples, coded_header, masked, header_octets, coded, decoded, CarriesSamples}
 use Rattle.scrambler.proofs.Masks.{sample7_lt, ago_lt}
 use Rattle.scrambler.proofs.Payloads.{masked_twice}
-use Rattle.scrambler.proofs.Rows.{drop_all}
 
 xor_again : (a b : ℕ) → bit_xor a (bit_xor a b) ≡ b
 xor_again a b = sym (xor_assoc a a b) ∙ ap (λ (x : ℕ). bit_xor x b) (xor_self a) ∙ xor_zero_l b
@@ -33,6 +33,11 @@ carries_samples h p =
       hec8 = ap (λ (s : ℕ). s / 2 ^ 7) e ∙ eighth;
       hec7 = ap (λ (s : ℕ). s / 2 ^ 6 % 2) e ∙ ap (λ (s : ℕ). s % 2) two ∙ digits_mod (sample8 p) seven;
     }
+
+-- as the code makes them
+pub made_carries : (h m o s p : ℕ) → m ≡ header_mask p → o ≡ check_octet (bit_xor h m) → s ≡ samples p → bit_xor (check_octet (bit_xor h m)) (bit_xor o s) ≡ samples p
+made_carries h m o s p em eo es =
+    ap₂ (λ (x y : ℕ). bit_xor (check_octet (bit_xor h m)) (bit_xor x y)) eo es ∙ xor_again (check_octet (bit_xor h m)) (samples p)
 
 header_mask_lt : (p : ℕ) → header_mask p < 2 ^ 32
 unfolding header_mask
@@ -57,19 +62,12 @@ octets_of_header a b c d ha hb hc hd =
 -- ---- the 53 octets
 
 -- as the code writes them: the header's four, the HEC octet, the payload
-pub assembled : (place header payload : List ℕ) (h hec : ℕ) → length place ≡ 53 → header ≡ header_octets h
-    → put_mid 5 48 (set (header ++ post_of 0 4 place) 4 hec) payload ≡ header_octets h ++ hec ∷ payload
-assembled [] header payload h hec l e = absurd (let z : ⊥ = omega arith in z)
-assembled (a ∷ []) header payload h hec l e = absurd (let z : ⊥ = omega arith in z)
-assembled (a ∷ b ∷ []) header payload h hec l e = absurd (let z : ⊥ = omega arith in z)
-assembled (a ∷ b ∷ c ∷ []) header payload h hec l e = absurd (let z : ⊥ = omega arith in z)
-assembled (a ∷ b ∷ c ∷ d ∷ []) header payload h hec l e = absurd (let z : ⊥ = omega arith in z)
-assembled (a ∷ b ∷ c ∷ d ∷ o ∷ rest) header payload h hec l e =
-    let none : drop 48 rest ≡ [] = drop_all rest 48 (omega arith) in
-    ap (λ (x : List ℕ). put_mid 5 48 (set (x ++ o ∷ rest) 4 hec) payload) e
-    ∙ ap (λ (x : List ℕ). header_octets h ++ hec ∷ (payload ++ x)) none ∙ ap (λ (x : List ℕ). header_octets h ++ hec ∷ x) (append-nil payload)
+pub assembled : (header payload : List ℕ) (h hec : ℕ) → header ≡ header_octets h
+    → put_mid 5 48 (set (header ++ replicate 49 0) 4 hec) payload ≡ header_octets h ++ hec ∷ payload
+assembled header payload h hec e =
+    ap (λ (x : List ℕ). put_mid 5 48 (set (x ++ replicate 49 0) 4 hec) payload) e ∙ ap (λ (x : List ℕ). header_octets h ++ hec ∷ x) (append-nil payload)
 
-pub decoded_again : (cell : List ℕ) (p : ℕ) (a b c d : ℕ) (rest : List ℕ) → cell ≡ a ∷ b ∷ c ∷ d ∷ rest
+decoded_again : (cell : List ℕ) (p : ℕ) (a b c d : ℕ) (rest : List ℕ) → cell ≡ a ∷ b ∷ c ∷ d ∷ rest
     → a < 256 → b < 256 → c < 256 → d < 256 → decoded p (coded p cell) ≡ cell
 unfolding decoded coded
 decoded_again cell p a b c d rest e ha hb hc hd =
@@ -85,12 +83,21 @@ decoded_again cell p a b c d rest e ha hb hc hd =
     ∙ sym e
 
 -- the first four octets of a cell apart
-pub four_and_rest : (cell : List ℕ) → length cell ≡ 52 → cell ≡ get_or cell 0 0 ∷ get_or cell 1 0 ∷ get_or cell 2 0 ∷ get_or cell 3 0 ∷ drop 4 cell
+four_and_rest : (cell : List ℕ) → length cell ≡ 52 → cell ≡ get_or cell 0 0 ∷ get_or cell 1 0 ∷ get_or cell 2 0 ∷ get_or cell 3 0 ∷ drop 4 cell
 four_and_rest [] l = absurd (let z : ⊥ = omega arith in z)
 four_and_rest (a ∷ []) l = absurd (let z : ⊥ = omega arith in z)
 four_and_rest (a ∷ b ∷ []) l = absurd (let z : ⊥ = omega arith in z)
 four_and_rest (a ∷ b ∷ c ∷ []) l = absurd (let z : ⊥ = omega arith in z)
 four_and_rest (a ∷ b ∷ c ∷ d ∷ rest) l = refl
+
+-- as the code has it
+pub decoded_coded : (p : ℕ) (cell : List ℕ) → length cell ≡ 52 → ((i : ℕ) → get_or cell i 0 < 256) → decoded p (coded p cell) ≡ cell
+decoded_coded p cell long octet =
+    decoded_again cell p (get_or cell 0 0) (get_or cell 1 0) (get_or cell 2 0) (get_or cell 3 0) (drop 4 cell) (four_and_rest cell long)
+    (octet 0) (octet 1) (octet 2) (octet 3)
+
+pub payload_part : (cell : List ℕ) → length cell ≡ 52 → mid_of 4 48 cell ≡ drop 4 cell
+payload_part cell long = take_all 48 (drop 4 cell) (simp length-drop (omega (arith, long)))
 
 -- the header of a coded cell, read off its octets
 pub coded_header_on : (cell : List ℕ) (p : ℕ) → header_of cell < 2 ^ 32

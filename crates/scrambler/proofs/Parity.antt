@@ -1,10 +1,10 @@
 -- The sum of the bits of a number: it is linear, it is what counting the ones gives, and it computes.
-use Rattle.std.proofs.Common.{◌≡◌, ℕ, zero, suc, ◌+◌, ◌/◌, ◌%◌, ◌^◌, ◌<◌, sym, refl, ap, ◌∙◌, subst, ap₂, lt_of_le_of_lt, add-one, arith, shr_lt}
+use Rattle.std.proofs.Common.{◌≡◌, ℕ, zero, suc, ◌+◌, ◌/◌, ◌%◌, ◌^◌, ◌<◌, T, sym, refl, ap, ◌∙◌, subst, ap₂, lt_of_le_of_lt, add-one, arith, shr_lt}
 use lib.Arith.{lt-one}
-use lib.Bits.{bit_xor, bit_and, and_mask, and_le_l, xor_mod, xor_add_and}
+use lib.Bits.{bit_xor, bit_and, and_le_l, xor_mod, xor_add_and}
 use lib.Count.{ones, ones_step, ones_in}
 use Rattle.cell.specs.Linear.{Linear}
-use Rattle.cell.proofs.Linear.{lin_id, lin_xor, lin_comp, lin_shr, lin_mod, lin_and}
+use Rattle.cell.proofs.Linear.{lin_id, lin_xor, lin_comp, lin_shr, lin_mod, lin_and, agree, basis}
 
 -- the sum of the low k bits of n
 unfoldable pub parity : ℕ → ℕ → ℕ
@@ -35,5 +35,10 @@ ones_parity (suc k) n h =
     ∙ ap₂ bit_xor (mod_mod n) (ones_parity k (n / 2) (shr_lt k 1 (subst (λ (x : ℕ). n < 2 ^ x) (sym (add-one k)) h)))
 
 -- as the code has it
-pub counted_parity : (w row : ℕ) → w < 2 ^ 32 → bit_and (ones (bit_and w row)) 1 ≡ parity 32 (bit_and w row)
-counted_parity w row h = and_mask (ones (bit_and w row)) 1 ∙ ones_parity 32 (bit_and w row) (lt_of_le_of_lt (and_le_l w row) h)
+pub counted_parity : (w row : ℕ) → w < 2 ^ 32 → ones (bit_and w row) % 2 ≡ parity 32 (bit_and w row)
+counted_parity w row h = ones_parity 32 (bit_and w row) (lt_of_le_of_lt (and_le_l w row) h)
+
+-- a row whose bits of a word add up to f at each power of two does so at each word
+pub row_sums : (row : ℕ) (f : ℕ → ℕ) → Linear f → T (agree 32 (λ w. parity 32 (bit_and w row)) f)
+    → (w : ℕ) → w < 2 ^ 32 → ones (bit_and w row) % 2 ≡ f w
+row_sums row f l t w h = counted_parity w row h ∙ basis (λ w. parity 32 (bit_and w row)) f (lin_row row) l 32 t w h

@@ -1,33 +1,14 @@
 -- The rows undo the sampling, and the sampling undoes the rows.
-use Rattle.std.proofs.Common.{◌≡◌, ℕ, zero, suc, ◌+◌, ◌*◌, ◌%◌, ◌^◌, ◌<◌, ◌≤◌, List, [], ◌∷◌, length, get_or, drop, sym, refl, ap, ◌∙◌, subst, ap₂, mod-lt, add-one, arith, drop-cons, pow_pos}
-use lib.Bits.{bit_xor, bit_and, and_mask}
+use Rattle.std.proofs.Common.{◌≡◌, ℕ, zero, suc, ◌*◌, ◌%◌, ◌^◌, ◌<◌, List, [], ◌∷◌, fold, sym, refl, ap, ◌∙◌, subst, mod-lt, arith, pow_pos}
+use lib.Bits.{bit_xor, bit_and}
 use lib.Count.{ones}
 use Rattle.cell.specs.Linear.{Linear}
 use Rattle.cell.proofs.Linear.{lin_id, lin_zero_word, lin_xor, lin_comp, lin_shl, lin_mod, basis}
 use Rattle.scrambler.specs.Generator.{step, back, iterate, ahead, ago, before}
 use Rattle.scrambler.specs.Coding.{sample8, sample7}
-use Rattle.scrambler.specs.Finder.{samples_of, sample_word, OnePhase, times_from, times_rows, phase_rows}
+use Rattle.scrambler.specs.Finder.{samples_of, sample_word, OnePhase, times_rows, phase_rows}
 use Rattle.scrambler.proofs.Parity.{parity, lin_row, counted_parity}
 use Rattle.scrambler.proofs.Steps.{lin_iterate, lin_back, lin_ahead, lin_ago}
-
--- ---- the loop of the code
-
-pub times_more : (rs : List ℕ) (w a i : ℕ) → i < length rs
-    → times_from (drop i rs) w a ≡ times_from (drop (i + 1) rs) w (bit_xor (a * 2 % 2 ^ 32) (bit_and (ones (bit_and w (get_or rs i 0))) 1))
-unfolding times_from
-times_more rs w a i h =
-    ap (λ (l : List ℕ). times_from l w a) (drop-cons rs i 0 h)
-    ∙ ap₂ (λ (l : List ℕ) (b : ℕ). times_from l w (bit_xor (a * 2 % 2 ^ 32) b)) (ap (λ (k : ℕ). drop k rs) (sym (add-one i))) (sym (and_mask (ones (bit_and w (get_or rs i 0))) 1))
-
-pub drop_all : (rs : List ℕ) (i : ℕ) → length rs ≤ i → drop i rs ≡ []
-drop_all [] zero h = refl
-drop_all [] (suc i) h = refl
-drop_all (r ∷ rs) zero h = absurd (let z : ⊥ = omega arith in z)
-drop_all (r ∷ rs) (suc i) h = drop_all rs i (omega arith)
-
-pub times_all : (rs : List ℕ) (w a i : ℕ) → length rs ≤ i → times_from (drop i rs) w a ≡ a
-unfolding times_from
-times_all rs w a i h = ap (λ (l : List ℕ). times_from l w a) (drop_all rs i h)
 
 -- ---- sampling is linear
 
@@ -50,6 +31,9 @@ lin_sample_word = lin_mod 31 (samples_of 16) (lin_samples 16)
 
 -- ---- so are rows, by a sum that computes
 
+times_from : List ℕ → ℕ → ℕ → ℕ
+times_from rs w a = fold (λ a r. bit_xor (a * 2 % 2 ^ 32) (ones (bit_and w r) % 2)) a rs
+
 sums : List ℕ → ℕ → ℕ → ℕ
 sums [] w a = a
 sums (r ∷ rs) w a = sums rs w (bit_xor (a * 2 % 2 ^ 32) (parity 32 (bit_and w r)))
@@ -58,7 +42,7 @@ sums_is : (rs : List ℕ) (w a : ℕ) → w < 2 ^ 32 → times_from rs w a ≡ s
 unfolding sums times_from
 sums_is [] w a h = refl
 sums_is (r ∷ rs) w a h =
-    ap (λ (b : ℕ). times_from rs w (bit_xor (a * 2 % 2 ^ 32) b)) (sym (and_mask (ones (bit_and w r)) 1) ∙ counted_parity w r h)
+    ap (λ (b : ℕ). times_from rs w (bit_xor (a * 2 % 2 ^ 32) b)) (counted_parity w r h)
     ∙ sums_is rs w (bit_xor (a * 2 % 2 ^ 32) (parity 32 (bit_and w r))) h
 
 lin_sums : (rs : List ℕ) (f : ℕ → ℕ) → Linear f → Linear (λ w. sums rs w (f w))
@@ -94,7 +78,7 @@ samples_undo_rows w h =
     basis (λ x. sample_word (by_rows x)) (λ x. x) (lin_comp sample_word by_rows lin_sample_word lin_by_rows) lin_id 31 tt w h
 
 pub one_phase_lem : (w : ℕ) → w < 2 ^ 31 → OnePhase w (times_rows phase_rows w)
-unfolding times_rows by_rows
+unfolding times_rows times_from by_rows
 one_phase_lem w h =
     let e : by_rows w ≡ times_rows phase_rows w = sym (sums_is phase_rows w 0 (omega arith)) in
     subst (OnePhase w) e (

@@ -1,12 +1,12 @@
 -- What the definitions on phases say of an endless sequence of bits that obeys the recurrence.
 use Rattle.std.proofs.Common.{◌≡◌, ℕ, zero, suc, ◌+◌, ◌-◌, ◌*◌, ◌/◌, ◌%◌, ◌^◌, ◌<◌, sym, ap, ◌∙◌, ap₂, add-zero, add-suc, mod-eq_of_lt, mul_assoc, pow-suc, add-one, arith}
 use lib.Arith.{digits_div, digits_mod}
-use lib.Bits.{bit_xor, and_mask, xor_mod, xor_shifted, xor_comm, xor_assoc, xor_self, xor_zero_r}
+use lib.Bits.{bit_xor, xor_mod, xor_shifted, xor_comm, xor_assoc, xor_self, xor_zero_r}
 use Rattle.std.proofs.lemmas.Nat.{mod_low, shr-shr}
 use Rattle.scrambler.specs.Generator.{step, back, iterate, ahead, ago, octet_ahead}
 use Rattle.scrambler.specs.Coding.{header_mask}
 use Rattle.scrambler.specs.Sequence.{Generated, bits_at, phase_at}
-use Rattle.scrambler.proofs.Masks.{ago_32_is}
+use Rattle.scrambler.proofs.Masks.{ago_32_sum}
 use Rattle.scrambler.proofs.Steps.{back_step}
 
 module _ (u : ℕ → ℕ) (g : Generated u) where
@@ -89,7 +89,7 @@ module _ (u : ℕ → ℕ) (g : Generated u) where
       let one : p % 2 ≡ u (n + 31) = bits_last (n + 1) 30 ∙ ap u (omega arith) in
       let other : p / 2 ^ 28 % 2 ≡ u (n + 3) = ap (λ (x : ℕ). x % 2) (bits_shr (n + 1) 3 28) ∙ bits_last (n + 1) 2 ∙ ap u (omega arith) in
       let top : ago 32 p ≡ u n =
-      sym (ago_32_is p (omega (arith, bits_lt (n + 1) 31))) ∙ and_mask (bit_xor p (p / 2 ^ 28)) 1 ∙ xor_mod p (p / 2 ^ 28) 1 ∙ ap₂ bit_xor one other
+      sym (ago_32_sum p (omega (arith, bits_lt (n + 1) 31))) ∙ xor_mod p (p / 2 ^ 28) 1 ∙ ap₂ bit_xor one other
       ∙ ap (λ (x : ℕ). bit_xor x (u (n + 3))) (g.rule n ∙ xor_comm (u (n + 3)) (u n))
       ∙ xor_assoc (u n) (u (n + 3)) (u (n + 3)) ∙ ap (bit_xor (u n)) (xor_self (u (n + 3))) ∙ xor_zero_r (u n) in
       let whole : p % 2 ^ 31 ≡ p = mod-eq_of_lt (bits_lt (n + 1) 31) in

@@ -19,8 +19,8 @@ use Rattle.cell.specs.CheckOctet.{check_octet}
 use Rattle.cell.specs.LineHeader.{syndrome_of}
 use Rattle.cell.specs.Refusal.{number_of}
 use Rattle.cell.specs.Verdict.{agreeing}
-use Rattle.cell.specs.Sorting.{header_of}
-pub use Rattle.cell.specs.Sorting.{header_octets}
+use Rattle.cell.specs.Header.{header_of}
+pub use Rattle.cell.specs.Header.{header_octets}
 use Rattle.cell.specs.declared.line_header.LineHeader.{LineHeader}
 use Rattle.cell.specs.declared.refusal.Refusal.{Refusal}
 use Rattle.cell.specs.declared.refusal.Refusal.TheVariants.{NoOctets, TooManyOctets, BadPhase, WrongLength, ReservedHeader, NotServed, NoSpace, NoneWaiting, BadSampleWord, NoOnePhase}

@@ -7,9 +7,9 @@
 --   OnePhase w p     p is the one phase with the sample word w
 --   PhaseOf w r      what the finder answers to the word w, also where it refuses
 --   phase_rows       for each bit of the phase, the top bit first, the bits of the sample word whose sum it is
---   times_rows rs w  for each row the sum of the bits of w that it picks, the first row's on top (times_from: below the bits a)
+--   times_rows rs w  for each row the sum of the bits of w that it picks, the first row's on top
 --   found w          the finder's answer, by the rows
-use Rattle.std.specs.Prelude.{◌≡◌, ℕ, zero, suc, ◌*◌, ◌%◌, ◌^◌, ◌<◌, ◌≤◌, cond, List, [], ◌∷◌, Ok, Err, Result, bit_and, bit_xor, count_ones, nat_lt}
+use Rattle.std.specs.Prelude.{◌≡◌, ℕ, zero, suc, ◌*◌, ◌%◌, ◌^◌, ◌<◌, ◌≤◌, cond, List, [], ◌∷◌, fold, Ok, Err, Result, bit_and, bit_xor, count_ones, nat_lt}
 use Rattle.cell.specs.Refusal.{number_of}
 use Rattle.cell.specs.declared.refusal.Refusal.{Refusal}
 use Rattle.cell.specs.declared.refusal.Refusal.TheVariants.{NoOctets, TooManyOctets, BadPhase, WrongLength, ReservedHeader, NotServed, NoSpace, NoneWaiting, BadSampleWord, NoOnePhase}
@@ -41,12 +41,8 @@ PhaseOf w (Err NoneWaiting) = ⊥
 
 -- ---- by rows. Nothing of this need be believed: PhaseOf alone fixes the finder's answer to each word
 
-unfoldable pub times_from : List ℕ → ℕ → ℕ → ℕ
-times_from [] w a = a
-times_from (r ∷ rs) w a = times_from rs w (bit_xor (a * 2 % 2 ^ 32) (count_ones (bit_and w r) % 2))
-
 unfoldable pub times_rows : List ℕ → ℕ → ℕ
-times_rows rs w = times_from rs w 0
+times_rows rs w = fold (λ a r. bit_xor (a * 2 % 2 ^ 32) (count_ones (bit_and w r) % 2)) 0 rs
 
 abbrev pub phase_rows : List ℕ
 phase_rows =

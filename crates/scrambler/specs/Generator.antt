@@ -10,7 +10,11 @@
 --   Steps k p r      the phase r lies k steps on from p; said of the place q that p was reached from, so that runs of steps add up
 --   next_phase p     the phase of the next cell, 424 steps on
 --   before p         the phase of the cell before, 424 steps back
-use Rattle.std.specs.Prelude.{◌≡◌, ℕ, zero, suc, ◌+◌, ◌-◌, ◌*◌, ◌/◌, ◌%◌, ◌^◌, bit_xor}
+--   Running p        cells are coded at p: it has 31 bits and is not 0, at which the generator would stand still
+--   PhaseAnswer p r  what the test of p answers
+use Rattle.std.specs.Prelude.{◌≡◌, ℕ, zero, suc, ◌+◌, ◌-◌, ◌*◌, ◌/◌, ◌%◌, ◌^◌, ◌<◌, ◌≤◌, ◌⊎◌, Result, MatchResult, bit_xor}
+use Rattle.cell.specs.declared.refusal.Refusal.{Refusal}
+use Rattle.cell.specs.declared.refusal.Refusal.TheVariants.{BadPhase}
 
 -- U(t) = U(t - 28) xor U(t - 31) comes in below, and U(t - 31) leaves on top
 unfoldable pub step : ℕ → ℕ
@@ -41,3 +45,9 @@ next_phase p = iterate 424 step p
 
 abbrev pub before : ℕ → ℕ
 before p = iterate 424 back p
+
+abbrev pub Running : ℕ → Type 0
+Running p = (0 < p) × (p < 2 ^ 31)
+
+abbrev pub PhaseAnswer : {X : Type 0} → ℕ → Result X Refusal → Type 0
+PhaseAnswer p r = MatchResult r (λ _. Running p) (λ e. (e ≡ BadPhase) × ((p ≡ 0) ⊎ (2 ^ 31 ≤ p)))

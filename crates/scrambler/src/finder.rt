@@ -3,6 +3,7 @@ ghost use Rattle.std.specs.Prelude.{◌≡◌, ◌^◌, ◌<◌};
 ghost use Rattle.scrambler.specs.Finder.{times_rows, phase_rows, found, OnePhase, PhaseOf};
 
 use crate::generator::LAST_PHASE;
+use crate::sums::picked_sum;
 use cell::refusal::Refusal;
 
 // The one phase with these 31 samples, the first on top, the last being the HEC7 sample of the cell whose phase it is.
@@ -14,28 +15,20 @@ pub fn find_phase(word: u32) -> Result<u32, Refusal>
     if word > LAST_PHASE {
         return Err(Refusal::BadSampleWord);
     }
-    Ok(phase_by(ROWS, word))
+    Ok(phase_by(&ROWS, word))
 }
 
-// The phase by rows that undo the sampling.
-fn phase_by(rows: [u32; 31], word: u32) -> u32
-    requires undo { rows ≡ phase_rows }
+// The phase by rows that undo the sampling: the sum of the bits of the word that each row picks, the first row's on top.
+fn phase_by(rows: &[u32; 31], word: u32) -> u32
+    requires undo { rows.now ≡ phase_rows }
     requires small { word < 2 ^ 31 }
     ensures value { result ≡ times_rows phase_rows word }
     ensures one { OnePhase word result }
 {
-    times_rows(rows, word)
-}
-
-// Each row times the bits of a word, the first row's bit on top.
-fn times_rows(rows: [u32; 31], word: u32) -> u32
-    ensures { result ≡ times_rows rows word }
-{
-    let mut bits = 0;
-    for row in rows {
-        bits = (bits << 1) ^ ((word & row).count_ones() & 1);
-    }
-    bits
+    rows.iter().fold(
+        0,
+        |bits, row| (bits << 1) ^ u32::from(picked_sum(word, *row)),
+    )
 }
 
 // For each bit of the phase, the top bit first, the bits of the sample word whose sum it is.

@@ -1,16 +1,29 @@
 // The generator, by its phase.
 ghost use Rattle.std.specs.Prelude.{◌≡◌, ◌^◌, ◌<◌, ◌≤◌};
-ghost use Rattle.scrambler.specs.Generator.{Steps, next_phase};
+ghost use Rattle.scrambler.specs.Generator.{Steps, next_phase, PhaseAnswer};
 ghost use Rattle.scrambler.specs.Sequence.{SequenceLaws};
+
+use cell::refusal::Refusal;
 
 // The largest phase: a phase has 31 bits.
 pub const LAST_PHASE: u32 = 0x7fff_ffff;
+
+// Refuses what no cell is coded at: a phase of 0 or above 2^31 - 1.
+pub fn check_phase(phase: u32) -> Result<(), Refusal>
+    ensures { PhaseAnswer phase result }
+{
+    if phase == 0 || phase > LAST_PHASE {
+        return Err(Refusal::BadPhase);
+    }
+    Ok(())
+}
 
 // The phase of the next cell, 424 steps on: 15 times 28, and 4. Of a word above 2^31 - 1 the low 31 bits count.
 pub fn next_phase(phase: u32) -> u32
     ensures value { result ≡ next_phase phase }
     ensures small { result < 2 ^ 31 }
 {
+    // a loop: it repeats one step and reads no index, and a fold over a range is no plainer
     let mut p = phase;
     for _i in 0..15u32 {
         p = steps_on(p, 28);

@@ -6,4 +6,5 @@ pub mod finder;
 pub mod generator;
 pub mod payload;
 pub mod samples;
+mod sums;
 pub mod worked_values;

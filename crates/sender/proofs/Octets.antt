@@ -5,7 +5,7 @@ use Rattle.std.specs.List.{AllByRecursion}
 use Rattle.std.proofs.ByRecursion.{All-drop, All-from_get_or}
 use Rattle.cell.specs.CheckOctet.{check_octet}
 use Rattle.cell.specs.Polynomial.{remainder}
-use Rattle.cell.specs.Sorting.{header_of}
+use Rattle.cell.specs.Header.{header_of}
 use Rattle.cell.proofs.Division.{remainder_lt}
 use Rattle.ports.specs.Cell.{Cell, octets}
 use Rattle.ports.proofs.Octets.{header_read}
@@ -15,11 +15,12 @@ use Rattle.scrambler.proofs.Masks.{ago_lt, sample7_lt}
 use Rattle.scrambler.proofs.Payloads.{length-masked}
 use Rattle.sender.specs.Told.{Octets}
 
-pub slice_octets : (xs : List ℕ) → length xs ≡ 48 → ((i : ℕ) → get_or xs i 0 < 2 ^ 8) → Octets 48 xs
-slice_octets xs l h = (l, All-from_get_or _ xs 0 (λ i _. h i))
+pub all_octets : (xs : List ℕ) → ((i : ℕ) → get_or xs i 0 < 2 ^ 8) → AllByRecursion (λ x. x < 2 ^ 8) xs
+all_octets xs h = All-from_get_or _ xs 0 (λ i _. h i)
 
+-- of the payload of a cell in an array of octets
 pub payload_octets : (xs : List ℕ) → length xs ≡ 52 → ((i : ℕ) → get_or xs i 0 < 2 ^ 8) → Octets 48 (drop 4 xs)
-payload_octets xs l h = (simp length-drop (omega arith), All-drop _ 4 xs (All-from_get_or _ xs 0 (λ i _. h i)))
+payload_octets xs l h = (simp length-drop (omega arith), All-drop _ 4 xs (all_octets xs h))
 
 masked-octets : (xs : List ℕ) (k p : ℕ) → AllByRecursion (λ x. x < 2 ^ 8) xs → AllByRecursion (λ x. x < 2 ^ 8) (masked k p xs)
 unfolding masked octet_ahead

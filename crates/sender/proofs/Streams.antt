@@ -2,7 +2,7 @@
 use Rattle.std.proofs.Common.{◌≡◌, ℕ, suc, ◌+◌, ◌*◌, ◌%◌, ◌^◌, ◌<◌, Bool, true, false, cond, T, eqb, List, [], ◌∷◌, ◌++◌, length, sym, refl, ap, ◌∙◌, subst, ap₂, add-zero, mod-lt, mod-eq_of_lt, zero-add, arith, lit<, eqb→eq}
 use native.Mathlib.Nat.{mod-add-mod}
 use Rattle.std.specs.List.{AllByRecursion}
-use Rattle.cell.specs.Sorting.{header_of}
+use Rattle.cell.specs.Header.{header_of}
 use Rattle.cell.specs.declared.header.Kind.{Kind}
 use Rattle.cell.specs.declared.header.Kind.TheVariants.{F3}
 use Rattle.cell.specs.declared.line_header.LineHeader.{LineHeader}

@@ -1,7 +1,8 @@
 -- The sending end: which cell goes out, and what the sender is after it.
 --
---   SenderState           the phase of the next cell, its number since the start by its remainder at 432, and the F3 payload
---   state_of sender       that of a sender
+--   SenderState           what a sender means: the phase of the next cell, its number since the start by its remainder at 432, and
+--                         the F3 payload
+--   IsRunning s           what holds of every sender: its phase is one that cells are coded at, its number a remainder, its F3 payload whole
 --   fresh                 phase 1, number 0, an F3 payload of 48 octets 0x6A
 --   started s p           the sender s after a start at phase p: the F3 payload stays
 --   kind_sent s cells     the kind of the next cell, where the list cells waits in the source: F3 at the numbers 0, 432, 864 and so on;
@@ -23,15 +24,16 @@ use Rattle.cell.specs.declared.refusal.Refusal.TheVariants.{NoOctets, TooManyOct
 use Rattle.ports.specs.Cell.{Cell, octets}
 use Rattle.scrambler.specs.Coding.{coded}
 use Rattle.scrambler.specs.Generator.{next_phase}
-use Rattle.sender.specs.declared.sender.Sender.{Sender}
 
 pub record SenderState : Type 0 where
   pub phase : ℕ
   pub number : ℕ
   pub f3 : List ℕ
 
-abbrev pub state_of : Sender → SenderState
-state_of s = record { phase = s.phase; number = s.number; f3 = s.f3 }
+pub record IsRunning (s : SenderState) : Type 0 where
+  pub phase : (0 < s.phase) × (s.phase < 2 ^ 31)
+  pub number : s.number < 432
+  pub f3 : length s.f3 ≡ 48
 
 abbrev pub fresh : SenderState
 fresh = record { phase = 1; number = 0; f3 = replicate 48 0x6A }

@@ -1,10 +1,12 @@
-use Rattle.std.proofs.Common.{◌≡◌, ℕ, List, sym, ap, ◌∙◌, subst}
+use Rattle.std.proofs.Common.{◌≡◌, ℕ, List, sym, ap, ◌∙◌, subst, rules}
 use Rattle.scrambler.specs.Finder.{times_rows, phase_rows, OnePhase}
 use Rattle.scrambler.proofs.Rows.{one_phase_lem}
 use Rattle.scrambler.proofs.finder.phase_by.Goals as goal
 
 pub returns : goal.returns
+unfolding times_rows
 returns c =
-    let e : c.times_rows.result ≡ times_rows phase_rows c.args.word =
-    c.times_rows.ensures ∙ ap (λ (rs : List ℕ). times_rows rs c.args.word) c.requires.undo in
-    record { value = e; one = subst (OnePhase c.args.word) (sym e) (one_phase_lem c.args.word c.requires.small) }
+    let w : ℕ = c.args.word in
+    let folded : c.fold.result ≡ times_rows c.args.rows.now w = search rules in
+    let value : c.fold.result ≡ times_rows phase_rows w = folded ∙ ap (λ (rs : List ℕ). times_rows rs w) c.requires.undo in
+    record { value = value; one = subst (OnePhase w) (sym value) (one_phase_lem w c.requires.small) }

@@ -1,6 +1,6 @@
 use Rattle.std.proofs.Common.{rules}
 use Rattle.tracker.specs.Window.{agrees}
-use Rattle.tracker.proofs.window.agrees.Goals as goal
+use Rattle.tracker.proofs.window.Window.agrees.Goals as goal
 
 pub returns : goal.returns
 unfolding agrees

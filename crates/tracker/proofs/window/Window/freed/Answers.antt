@@ -1,6 +1,6 @@
 use Rattle.std.proofs.Common.{rules}
 use Rattle.tracker.specs.Window.{freed}
-use Rattle.tracker.proofs.window.freed.Goals as goal
+use Rattle.tracker.proofs.window.Window.freed.Goals as goal
 
 pub returns : goal.returns
 unfolding freed

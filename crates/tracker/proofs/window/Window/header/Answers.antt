@@ -1,6 +1,6 @@
 use Rattle.std.proofs.Common.{rules}
 use Rattle.tracker.specs.Window.{header_in}
-use Rattle.tracker.proofs.window.header_in.Goals as goal
+use Rattle.tracker.proofs.window.Window.header.Goals as goal
 
 pub returns : goal.returns
 unfolding header_in

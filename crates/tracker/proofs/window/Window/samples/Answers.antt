@@ -1,6 +1,6 @@
 use Rattle.std.proofs.Common.{rules}
 use Rattle.tracker.specs.Window.{samples_in}
-use Rattle.tracker.proofs.window.samples_in.Goals as goal
+use Rattle.tracker.proofs.window.Window.samples.Goals as goal
 
 pub returns : goal.returns
 unfolding samples_in

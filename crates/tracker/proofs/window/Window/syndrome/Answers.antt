@@ -1,6 +1,6 @@
 use Rattle.std.proofs.Common.{rules}
 use Rattle.tracker.specs.Window.{syndrome_in}
-use Rattle.tracker.proofs.window.syndrome_in.Goals as goal
+use Rattle.tracker.proofs.window.Window.syndrome.Goals as goal
 
 pub returns : goal.returns
 unfolding syndrome_in

@@ -153,6 +153,7 @@ struct Decision {
 }
 
 // The samples of the last sixteen headers, with those of one header more.
+#[tactic(auto, unfolding(crate::specs::Rules::sampled))]
 fn sampled(samples: u32, window: Window) -> u32
     ensures { result ≡ sampled samples window.bits }
 {

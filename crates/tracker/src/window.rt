@@ -23,8 +23,7 @@ impl Window {
     pub(crate) fn push(&mut self, bit: bool)
         ensures { self.new ≡ pushed self.old bit }
     {
-        let low = if bit { 1 } else { 0 };
-        self.bits = self.bits % 0x80_0000_0000 * 2 + low;
+        self.bits = self.bits % 0x80_0000_0000 * 2 + u64::from(bit);
         self.come = if self.come < LINE_HEADER_BITS {
             self.come + 1
         } else {
@@ -52,6 +51,7 @@ impl Window {
         LineHeader::from_bits(self.bits)
     }
 
+    #[tactic(auto, unfolding(crate::specs::Window::syndrome_in))]
     fn syndrome(self) -> u8
         ensures { result ≡ syndrome_in self.bits }
     {
@@ -59,6 +59,7 @@ impl Window {
     }
 
     // The header agrees: HEC6 to HEC1 of its syndrome are zero.
+    #[tactic(auto, unfolding(crate::specs::Window::agrees))]
     pub(crate) fn agrees(self) -> bool
         ensures { result ≡ agrees self.bits }
     {
@@ -66,6 +67,7 @@ impl Window {
     }
 
     // HEC8 and HEC7 of the syndrome, which carry the samples.
+    #[tactic(auto, unfolding(crate::specs::Window::samples_in))]
     pub(crate) fn samples(self) -> u8
         ensures value { result ≡ samples_in self.bits }
         ensures small { result < 4 }
@@ -81,6 +83,7 @@ impl Window {
     }
 
     // The syndrome with HEC8 and HEC7 freed of the samples that a phase predicts.
+    #[tactic(auto, unfolding(crate::specs::Window::freed))]
     pub(crate) fn freed(self, phase: u32) -> u8
         ensures { result ≡ freed phase self.bits }
     {
@@ -88,6 +91,7 @@ impl Window {
     }
 
     // The header, descrambled.
+    #[tactic(auto, unfolding(crate::specs::Window::header_in))]
     pub(crate) fn header(self, phase: u32) -> Header
         ensures { result ≡ header_in phase self.bits }
     {
@@ -95,6 +99,7 @@ impl Window {
     }
 
     // The header with one bit of the 40 turned, descrambled.
+    #[tactic(auto, unfolding(crate::specs::Window::header_in, crate::specs::Window::mended_in))]
     pub(crate) fn mended(self, phase: u32, bit: u8) -> Header
         ensures { result ≡ mended_in phase self.bits bit }
     {
@@ -103,6 +108,7 @@ impl Window {
 }
 
 // HEC8 and HEC7 as a phase predicts them.
+#[tactic(auto, unfolding(crate::specs::Window::predicted))]
 fn predicted(phase: u32) -> u8
     ensures { result ≡ predicted phase }
 {

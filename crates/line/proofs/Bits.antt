@@ -73,7 +73,7 @@ unfoldable pub into : ℕ → List Bool → ℕ
 into w [] = w
 into w (b ∷ bs) = into (shifted w b) bs
 
-pub window_into : (bs : List Bool) (s : Tracker) → (after s bs).window ≡ into s.window bs
+pub window_into : (bs : List Bool) (s : Tracker) → (after s bs).window.bits ≡ into s.window.bits bs
 unfolding step into
 window_into [] s = refl
 window_into (b ∷ bs) s = window_into bs (step s b)
@@ -92,11 +92,11 @@ unfolding into
 into_any b bs w = into_mod bs (shifted w b) (w * 2 + bit b) (shifted_is w b)
 
 -- after forty bits the window is their number
-pub window_header : (bs : List Bool) (s : Tracker) → length bs ≡ 40 → (after s bs).window ≡ value bs
+pub window_header : (bs : List Bool) (s : Tracker) → length bs ≡ 40 → (after s bs).window.bits ≡ value bs
 unfolding value
 window_header [] s e = absurd (let z : ⊥ = omega arith in z)
 window_header (b ∷ bs) s e =
-    let w : ℕ = s.window in
+    let w : ℕ = s.window.bits in
     let f : value_from w (b ∷ bs) ≡ w * 2 ^ 40 + value_from 0 (b ∷ bs) = value_from_lem (b ∷ bs) w ∙ ap (λ (z : ℕ). w * 2 ^ z + value_from 0 (b ∷ bs)) e in
     let l : value_from 0 (b ∷ bs) < 2 ^ 40 = subst (λ (z : ℕ). value_from 0 (b ∷ bs) < 2 ^ z) e (value_lt (b ∷ bs)) in
     window_into (b ∷ bs) s ∙ into_any b bs w ∙ ap (λ (z : ℕ). z % 2 ^ 40) f ∙ over w (value_from 0 (b ∷ bs)) ∙ mod-eq_of_lt l

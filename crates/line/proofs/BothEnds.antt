@@ -1,5 +1,5 @@
 -- The theorem of the line, from the laws of what one receiving end hears. Knows of the book only what a mended header writes down.
-use Rattle.std.proofs.Common.{◌≡◌, Bool, true, false, ltb, List, [], ◌∷◌, ◌++◌, length, sym, refl, ap, ◌∙◌, subst, le-ltb, lt-ltb}
+use Rattle.std.proofs.Common.{◌≡◌, Bool, true, false, ltb, List, [], ◌∷◌, ◌++◌, length, Some, Option, sym, refl, ap, ◌∙◌, subst, le-ltb, lt-ltb}
 use Rattle.sender.specs.Sender.{SenderState}
 use Rattle.tracker.specs.declared.tracker.Tracker.{Tracker}
 use Rattle.tracker.specs.declared.tracker.Moment.{Moment as Brought}
@@ -22,11 +22,11 @@ use Rattle.line.proofs.Streams.{streams-sent}
 
 -- ---- a mended header
 
-note_told : (s : Tracker) (b : Bool) (reply : Reply) (g : Log) → bit_brings s b ≡ moment.Header mended_only → MendedTold g (noted s b reply g)
+note_told : (s : Tracker) (b : Bool) (reply : Reply) (g : Log) → bit_brings s b ≡ Some (moment.Header mended_only) → MendedTold g (noted s b reply g)
 unfolding posted
 note_told s b reply g e =
-    let brings : noted s b reply g ≡ brought (moment.Header mended_only) (bit_step s b).payload reply (booked (bit_counted g.book) g) =
-    ap (λ (x : Brought). brought x (bit_step s b).payload reply (booked (bit_counted g.book) g)) e in
+    let brings : noted s b reply g ≡ brought (Some (moment.Header mended_only)) (bit_step s b).payload reply (booked (bit_counted g.book) g) =
+    ap (λ (x : Option Brought). brought x (bit_step s b).payload reply (booked (bit_counted g.book) g)) e in
     subst (MendedTold g) (sym brings)
     (record {
       told = λ free. let t : ltb (length g.events) g.places ≡ true = lt-ltb (length g.events) g.places free in rw t refl;
@@ -54,7 +54,7 @@ module _ (laws : (all : List Moment) → Heard start all → LawsThroughout all)
         f3_payload = receiving.called h (refl, refl);
       }
     where
-      told : (f : receiving.Feed) (before : List Moment) (m : Moment) → bit_brings (after start (bits ((heard h).newest ++ before))) m.bit ≡ moment.Header mended_only
+      told : (f : receiving.Feed) (before : List Moment) (m : Moment) → bit_brings (after start (bits ((heard h).newest ++ before))) m.bit ≡ Some (moment.Header mended_only)
           → MendedTold (log_run r.tracker (log r f.events) before) (log_run r.tracker (log r f.events) (before ++ m ∷ []))
       told f before m e =
           let here : after start (bits ((heard h).newest ++ before)) ≡ after r.tracker (bits before) =

@@ -9,7 +9,6 @@ use native.Mathlib.Decide.{dec_lt}
 use Rattle.std.specs.List.{AllByRecursion}
 use Rattle.cell.specs.declared.header.Header as headers
 use Rattle.ports.specs.Cell.{Cell}
-use Rattle.scrambler.specs.Coding.{masked}
 use Rattle.tracker.specs.declared.events.HeaderEvents.{HeaderEvents}
 use Rattle.tracker.specs.declared.state.Mode.{Mode}
 use Rattle.tracker.specs.declared.state.Lock.{Lock}
@@ -20,23 +19,23 @@ use Rattle.tracker.specs.declared.tracker.Tracker.{Tracker}
 use Rattle.tracker.specs.declared.tracker.Moment.TheVariants as moment
 use Rattle.tracker.specs.Window.{counted, shifted}
 use Rattle.tracker.specs.Rules.{headed, phase_of}
-use Rattle.tracker.specs.Tracker.{control_after, descrambled, brought, cell_ends, bit_step}
+use Rattle.tracker.specs.Tracker.{control_after, descrambled, brought, cell_ends, bit_step, unmasked}
 use Rattle.receiver.specs.Run.{step, after, offered, kept_cell, cell_in, user_cell}
 use Rattle.line.proofs.Bits.{value, octets_of, window_header}
 use Rattle.line.proofs.Cells.{at, At, Cut, cut_bits, paying, on, on_length, pay_next, head_next, step_control, pay_run, head_run, place_long, long_run, nil_of, payload_run}
 use Rattle.line.proofs.Runs.{after-append}
 
-pay_quiet : (m : Mode) (j : ℕ) (k : Option headers.Header) (l : Lock) (n w : ℕ) → brought m (paying (suc j) k l) n w ≡ moment.Quiet
+pay_quiet : (m : Mode) (j : ℕ) (k : Option headers.Header) (l : Lock) (n w : ℕ) → brought m (paying (suc j) k l) n w ≡ None
 pay_quiet m j k l n w = go (dec_lt 0 (suc j % 8))
   where
-    go : Dec (0 < suc j % 8) → brought m (paying (suc j) k l) n w ≡ moment.Quiet
+    go : Dec (0 < suc j % 8) → brought m (paying (suc j) k l) n w ≡ None
     go (yes h) = let t : ltb 0 (suc j % 8) ≡ true = lt-ltb 0 (suc j % 8) h in rw t refl
     go (no h) =
         let t : ltb 0 (suc j % 8) ≡ false = le-ltb 0 (suc j % 8) (omega arith) in
         let u : ltb 0 (suc j / 8) ≡ true = lt-ltb 0 (suc j / 8) (omega arith) in
         rw (t, u) refl
 
-header_quiet : (t : Bool) (e : HeaderEvents) (xs : List ℕ) → user_cell (cell_in (cond t moment.Quiet (moment.Header e)) xs) ≡ None
+header_quiet : (t : Bool) (e : HeaderEvents) (xs : List ℕ) → user_cell (cell_in (cond t None (Some (moment.Header e))) xs) ≡ None
 header_quiet true e xs = refl
 header_quiet false e xs = refl
 
@@ -44,7 +43,7 @@ offers_none : (s : Tracker) (b : Bool) (m : Mode) (p : Place) → ((n w : ℕ) (
     → s.control ≡ at m p → offered s b ≡ None
 unfolding kept_cell
 offers_none s b m p f e =
-    ap (λ (z : Control). user_cell (cell_in (brought z.mode z.place (counted s.come) (shifted s.window b)) (bit_step s b).payload)) e
+    ap (λ (z : Control). user_cell (cell_in (brought z.mode z.place (counted s.window.come) (shifted s.window.bits b)) (bit_step s b).payload)) e
     ∙ f _ _ _
 
 abbrev pub offers : Tracker → List Bool → List (Option Cell)
@@ -83,7 +82,7 @@ head_offers (b ∷ bs) j s m l e = (
 
 abbrev pub cell_from : Option headers.Header → Lock → List Bool → Option Cell
 cell_from None l w = None
-cell_from (Some h) l w = Some (record { header = h.0; payload = masked 8 (phase_of l.descrambler) (octets_of w) })
+cell_from (Some h) l w = Some (record { header = h.0; payload = unmasked (phase_of l.descrambler) (octets_of w) })
 
 cell_from_lem : (k : Option headers.Header) (l : Lock) (w : List Bool) → cell_in (cell_ends k) (descrambled k l (octets_of w)) ≡ cell_from k l w
 cell_from_lem None l w = refl
@@ -102,11 +101,11 @@ offered_last s t xs b m k l w a len f e =
     ap (λ (z : Tracker). (bit_step z b).payload) e ∙ sym (ap (λ (z : Tracker). z.payload) (after-append s xs (b ∷ [])))
     ∙ ap (λ z. (after s z).payload) f
     ∙ payload_run s m k l w a (ap length (sym f) ∙ length-append xs (b ∷ []) ∙ ap (λ (z : ℕ). z + 1) len) in (
-      ap (λ (z : Control). user_cell (cell_in (brought z.mode z.place (counted t.come) (shifted t.window b)) (bit_step t b).payload)) c
+      ap (λ (z : Control). user_cell (cell_in (brought z.mode z.place (counted t.window.come) (shifted t.window.bits b)) (bit_step t b).payload)) c
           ∙ ap (λ (z : List ℕ). user_cell (cell_in (cell_ends k) z)) p ∙ ap user_cell (cell_from_lem k l w),
       record {
-        control = ap (λ (z : Control). control_after z.mode z.place (counted t.come) (shifted t.window b)) c;
-        long = place_long t.control.place (shifted t.window b) t.payload ∙ ap (λ (z : Tracker). length z.payload) e ∙ long_run xs s
+        control = ap (λ (z : Control). control_after z.mode z.place (counted t.window.come) (shifted t.window.bits b)) c;
+        long = place_long t.control.place (shifted t.window.bits b) t.payload ∙ ap (λ (z : Tracker). length z.payload) e ∙ long_run xs s
             ∙ a.long;
       },
     )
@@ -132,13 +131,13 @@ heads s d l hs a len = go (cut_bits 39 hs (omega arith))
         (let z = ap length c.is ∙ length-append xs (c.last ∷ c.back) in let r = c.long in omega arith) in
         let i : hs ≡ xs ++ c.last ∷ [] = c.is ∙ ap (λ z. xs ++ c.last ∷ z) nb in
         let st : after s hs ≡ step (after s xs) c.last = ap (after s) i ∙ after-append s xs (c.last ∷ []) in
-        let v : (step (after s xs) c.last).window ≡ value hs = ap (λ (z : Tracker). z.window) (sym st) ∙ window_header hs s len in
+        let v : (step (after s xs) c.last).window.bits ≡ value hs = ap (λ (z : Tracker). z.window.bits) (sym st) ∙ window_header hs s len in
         record {
           quiet = subst Quiet (sym (ap (offers s) i ∙ offers_append xs (c.last ∷ []) s))
               (quiet_append (offers s xs) (offers (after s xs) (c.last ∷ [])) (head_offers xs 0 s d l e)
               (offers_none (after s xs) c.last d (Header zero l) (λ i w xs. refl) t, tt));
           control = ap (λ (z : Tracker). z.control) st
-              ∙ ap (λ (z : Control). control_after z.mode z.place (counted (after s xs).come) (shifted (after s xs).window c.last)) t
+              ∙ ap (λ (z : Control). control_after z.mode z.place (counted (after s xs).window.come) (shifted (after s xs).window.bits c.last)) t
               ∙ ap (headed d l) v;
           long = long_run hs s ∙ a.long;
         }

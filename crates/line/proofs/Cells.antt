@@ -19,7 +19,7 @@ use Rattle.tracker.specs.declared.state.Control.{Control}
 use Rattle.tracker.specs.declared.tracker.Tracker.{Tracker}
 use Rattle.tracker.specs.Window.{counted, shifted}
 use Rattle.tracker.specs.Rules.{phase_of}
-use Rattle.tracker.specs.Tracker.{control_after, filled, descrambled}
+use Rattle.tracker.specs.Tracker.{control_after, filled, descrambled, unmasked}
 use Rattle.receiver.specs.Run.{step, after}
 use Rattle.line.proofs.Bits.{value, octets_of, window_octet}
 
@@ -83,8 +83,8 @@ head_next m j l n w =
 pub step_control : (s : Tracker) (b : Bool) (m : Mode) (p : Place) (c : Control) → ((n w : ℕ) → control_after m p n w ≡ c) → s.control ≡ at m p
     → (step s b).control ≡ c
 unfolding step
-step_control s b m p c f e = ap (λ (z : Control). control_after z.mode z.place (counted s.come) (shifted s.window b)) e
-    ∙ f (counted s.come) (shifted s.window b)
+step_control s b m p c f e = ap (λ (z : Control). control_after z.mode z.place (counted s.window.come) (shifted s.window.bits b)) e
+    ∙ f (counted s.window.come) (shifted s.window.bits b)
 
 pub pay_run : (bs : List Bool) (j : ℕ) (s : Tracker) (m : Mode) (k : Option headers.Header) (l : Lock) → s.control ≡ at m (paying (on bs j) k l)
     → (after s bs).control ≡ at m (paying j k l)
@@ -98,9 +98,13 @@ head_run (b ∷ bs) j s m l e = head_run bs j (step s b) m l (step_control s b m
 
 -- ---- the payload, octet by octet
 
+length-unmasked : (p : Option ℕ) (xs : List ℕ) → length (unmasked p xs) ≡ length xs
+length-unmasked None xs = refl
+length-unmasked (Some p) xs = length-masked xs 8 p
+
 length-descrambled : (k : Option headers.Header) (l : Lock) (xs : List ℕ) → length (descrambled k l xs) ≡ length xs
 length-descrambled None l xs = refl
-length-descrambled (Some h) l xs = length-masked xs 8 (phase_of l.descrambler)
+length-descrambled (Some h) l xs = length-unmasked (phase_of l.descrambler) xs
 
 pay_long : (t u : Bool) (k : Option headers.Header) (l : Lock) (xs : List ℕ) (i v : ℕ)
     → length (cond t xs (cond u (set xs i v) (descrambled k l (set xs i v)))) ≡ length xs
@@ -116,7 +120,7 @@ place_long (Header j l) w xs = refl
 pub long_run : (bs : List Bool) (s : Tracker) → length (after s bs).payload ≡ length s.payload
 unfolding step
 long_run [] s = refl
-long_run (b ∷ bs) s = long_run bs (step s b) ∙ place_long s.control.place (shifted s.window b) s.payload
+long_run (b ∷ bs) s = long_run bs (step s b) ∙ place_long s.control.place (shifted s.window.bits b) s.payload
 
 record Eight (w : List Bool) : Type 0 where
   a : Bool
@@ -142,7 +146,7 @@ eight (a ∷ []) n = absurd (omega arith)
 eight [] n = absurd (omega arith)
 
 abbrev line_at : ℕ → ℕ → Control → List ℕ → Tracker
-line_at x n c xs = record { window = x; come = n; control = c; payload = xs }
+line_at x n c xs = record { window = record { bits = x; come = n }; control = c; payload = xs }
 
 take-set : (i : ℕ) (xs : List ℕ) (v : ℕ) → i < length xs → take (suc i) (set xs i v) ≡ take i xs ++ v ∷ []
 take-set i [] v h = absurd (omega arith)
@@ -212,5 +216,5 @@ octet_run (suc o) = more_octets o (octet_run o)
 pub payload_run : (s : Tracker) (m : Mode) (k : Option headers.Header) (l : Lock) (w : List Bool) → At s m (Payload 47 7 k l) → length w ≡ 384
     → (after s w).payload ≡ descrambled k l (octets_of w)
 payload_run s m k l w a h =
-    ap (λ (c : Control). (after (line_at s.window s.come c s.payload) w).payload) a.control
-    ∙ octet_run 47 s.window s.come m k l s.payload w (omega arith) a.long h
+    ap (λ (c : Control). (after (line_at s.window.bits s.window.come c s.payload) w).payload) a.control
+    ∙ octet_run 47 s.window.bits s.window.come m k l s.payload w (omega arith) a.long h

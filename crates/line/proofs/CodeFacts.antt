@@ -71,9 +71,6 @@ head_word_is p h b =
         → ((((0 * 2 ^ 8 + a) * 2 ^ 8 + b) * 2 ^ 8 + c) * 2 ^ 8 + d) * 2 ^ 8 + o ≡ x * 2 ^ 8 + o
     joined a b c d o x e = omega arith
 
-pub head_word_lt : (p h : ℕ) → h < 2 ^ 32 → head_word p h < 2 ^ 40
-head_word_lt p h b = let e = head_word_is p h b in let s = scrambled_lt p h b in let o = hec_lt p h b in omega arith
-
 of_bits_lem : (l : LineHeader) → l.header.0 < 2 ^ 32 → l.hec < 2 ^ 8 → of_bits (bits40 l) ≡ l
 of_bits_lem l h o =
     let x : ℕ = l.header.0 in

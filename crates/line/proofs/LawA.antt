@@ -116,20 +116,20 @@ module _ (laws : CodeLaws) where
   unfolding step
   stands_run s hs [] k = k
   stands_run s hs (b ∷ bs) k =
-      stands_run (step s b) _ bs (stands-place s.control.mode s.control.place (counted s.come) (shifted s.window b) hs k)
+      stands_run (step s b) _ bs (stands-place s.control.mode s.control.place (counted s.window.come) (shifted s.window.bits b) hs k)
 
   handed_if : (t u : Bool) (k : Option headers.Header) (xs : List ℕ) (hs : List ℕ) (c : Cell) → Kept k hs
-      → user_cell (cell_in (cond t moment.Quiet (cond u moment.Quiet (cell_ends k))) xs) ≡ Some c → Owned hs
+      → user_cell (cell_in (cond t None (cond u None (cell_ends k))) xs) ≡ Some c → Owned hs
   handed_if true u k xs hs c h e = absurd (none≢some e)
   handed_if false true k xs hs c h e = absurd (none≢some e)
   handed_if false false None xs hs c h e = absurd (none≢some e)
   handed_if false false (Some x) xs hs c h e = h
 
-  ended_none : (t : Bool) (e : HeaderEvents) (xs : List ℕ) (c : Cell) → user_cell (cell_in (cond t (moment.Header e) moment.Quiet) xs) ≡ Some c → ⊥
+  ended_none : (t : Bool) (e : HeaderEvents) (xs : List ℕ) (c : Cell) → user_cell (cell_in (cond t (Some (moment.Header e)) None) xs) ≡ Some c → ⊥
   ended_none true e xs c f = none≢some f
   ended_none false e xs c f = none≢some f
 
-  header_none : (t : Bool) (e : HeaderEvents) (xs : List ℕ) (c : Cell) → user_cell (cell_in (cond t moment.Quiet (moment.Header e)) xs) ≡ Some c → ⊥
+  header_none : (t : Bool) (e : HeaderEvents) (xs : List ℕ) (c : Cell) → user_cell (cell_in (cond t None (Some (moment.Header e))) xs) ≡ Some c → ⊥
   header_none true e xs c f = none≢some f
   header_none false e xs c f = none≢some f
 

@@ -180,14 +180,14 @@ module _ (laws : CodeLaws) where
   stream_gained all heard past rest m p front back x split a ready k =
       let f : CarriedOn x.phase (x ∷ back) = stream_carried p front x back a.stream in
       let s : Tracker = after start (bits past) in
-      let v : (step s m.bit).window ≡ value (header_bits x) =
-      ap (λ (z : Tracker). z.window)
+      let v : (step s m.bit).window.bits ≡ value (header_bits x) =
+      ap (λ (z : Tracker). z.window.bits)
       (sym (after-append start (bits past) (m.bit ∷ [])) ∙ ap (after start) a.on_header.1
       ∙ after-append start a.on_header.0 (header_bits x))
       ∙ window_header (header_bits x) (after start a.on_header.0) (header_long_lem laws f.0) in
       stream_gains k x.phase x back (step s m.bit) s.control.mode rest f
       (record {
-        control = hunt_ends_lem s.control.mode s.control.place (counted s.come) (shifted s.window m.bit) a.hunts a.ends
+        control = hunt_ends_lem s.control.mode s.control.place (counted s.window.come) (shifted s.window.bits m.bit) a.hunts a.ends
             ∙ ap (λ z. at s.control.mode (Payload 47 7 None (locked_on z))) v;
         long = sym (ap (λ (z : Tracker). length z.payload) (after-append start (bits past) (m.bit ∷ [])))
             ∙ long_run (bits past ++ m.bit ∷ []) start;

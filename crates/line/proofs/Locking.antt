@@ -74,15 +74,15 @@ count_on n h = let t : ltb n 40 ≡ true = lt-ltb n 40 h in rw t refl
 
 record Hunts (s : Tracker) (n : ℕ) : Type 0 where
   control : s.control ≡ at Correction Hunt
-  come : s.come ≡ n
+  come : s.window.come ≡ n
 
 hunts_on : (s : Tracker) (n : ℕ) (b : Bool) → n < 39 → Hunts s n → Hunts (step s b) (n + 1)
 unfolding step
 hunts_on s n b h a =
-    let c : counted s.come ≡ n + 1 = ap counted a.come ∙ count_on n (omega arith) in
+    let c : counted s.window.come ≡ n + 1 = ap counted a.come ∙ count_on n (omega arith) in
     record {
-      control = ap (λ (z : Control). control_after z.mode z.place (counted s.come) (shifted s.window b)) a.control
-          ∙ ap (at Correction) (still_hunting (counted s.come) (shifted s.window b) (subst (λ (z : ℕ). z < 40) (sym c) (omega arith)));
+      control = ap (λ (z : Control). control_after z.mode z.place (counted s.window.come) (shifted s.window.bits b)) a.control
+          ∙ ap (at Correction) (still_hunting (counted s.window.come) (shifted s.window.bits b) (subst (λ (z : ℕ). z < 40) (sym c) (omega arith)));
       come = c;
     }
 
@@ -90,11 +90,11 @@ hunts_run : (bs : List Bool) (s : Tracker) (n m : ℕ) → n + length bs ≡ m �
 hunts_run [] s n m e h a = subst (Hunts s) (let z : n ≡ m = omega arith in z) a
 hunts_run (b ∷ bs) s n m e h a = hunts_run bs (step s b) (n + 1) m (omega arith) h (hunts_on s n b (omega arith) a)
 
-hunt_found : (s : Tracker) (b : Bool) (w : ℕ) → Hunts s 39 → (step s b).window ≡ w → agrees w ≡ true → (step s b).control ≡ at Correction (Payload 47 7 None (locked_on w))
+hunt_found : (s : Tracker) (b : Bool) (w : ℕ) → Hunts s 39 → (step s b).window.bits ≡ w → agrees w ≡ true → (step s b).control ≡ at Correction (Payload 47 7 None (locked_on w))
 unfolding step
 hunt_found s b w a e g =
-    ap (λ (z : Control). control_after z.mode z.place (counted s.come) (shifted s.window b)) a.control
-    ∙ ap (λ (n : ℕ). at Correction (hunted n (shifted s.window b))) (ap counted a.come)
+    ap (λ (z : Control). control_after z.mode z.place (counted s.window.come) (shifted s.window.bits b)) a.control
+    ∙ ap (λ (n : ℕ). at Correction (hunted n (shifted s.window.bits b))) (ap counted a.come)
     ∙ ap (λ (z : ℕ). at Correction (hunted 40 z)) e ∙ ap (λ (t : Bool). at Correction (cond t (Payload 47 7 None (locked_on w)) Hunt)) g
 
 -- ---- headers of a stream, one after the other
@@ -197,7 +197,7 @@ module _ (laws : CodeLaws) where
           let s : Tracker = after start c.front in
           let st : after start (header_bits x) ≡ step s c.last = ap (after start) is ∙ after-append start c.front (c.last ∷ []) in
           let hunt : Hunts s 39 = hunts_run c.front start 0 39 (let r = c.long in omega arith) (omega arith) (record { control = refl; come = refl }) in
-          let win : (step s c.last).window ≡ w = ap (λ (z : Tracker). z.window) (sym st) ∙ window_header (header_bits x) start (header_long_lem laws f) in
+          let win : (step s c.last).window.bits ≡ w = ap (λ (z : Tracker). z.window.bits) (sym st) ∙ window_header (header_bits x) start (header_long_lem laws f) in
           let on : (step s c.last).control ≡ at Correction (Payload 47 7 None (locked_on w)) = hunt_found s c.last w hunt win (header_agrees laws f) in
           record {
             front = c.front;

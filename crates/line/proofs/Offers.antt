@@ -106,7 +106,6 @@ pub record Whole (d : Mode) (k : Option headers.Header) (l : Lock) (w : List Boo
   pub is : bs ≡ front ++ back
   pub count : length front ≡ 424
   pub head : List Bool
-  pub head_is : head ≡ f.head
   pub long : length head ≡ 40
   pub after_is : payload.back ≡ head ++ back
   pub quiet : Quiet (offers (step (after s payload.front) payload.last) head)
@@ -136,7 +135,6 @@ module _ (d : Mode) (k : Option headers.Header) (l : Lock) (w : List Bool) (f : 
         is = y.cut ∙ ap (λ z. pay ++ z) i ∙ sym (append_assoc pay hs c.back);
         count = length-append pay hs ∙ (let q = length-append y.front (y.last ∷ []) in let r = y.count in let z = lh in omega arith);
         head = hs;
-        head_is = p.0;
         long = lh;
         after_is = i;
         quiet = g.quiet;

@@ -135,10 +135,10 @@ module _ (laws : CodeLaws) where
         (parts.place.control ∙ ap (λ (z : ℕ). at st.mode (Header z lock))
         (let a = on_length parts.back 0 in let b = few in let z : 39 ≡ on parts.back 0 = omega arith in z))
 
-    window_is : (step (after start (bits (past ++ body))) m.bit).window ≡ value got
+    window_is : (step (after start (bits (past ++ body))) m.bit).window.bits ≡ value got
     window_is =
-        ap (λ (z : Tracker). (step z m.bit).window) before_is
-        ∙ sym (ap (λ (z : Tracker). z.window) (after-append header-starts parts.back (m.bit ∷ [])))
+        ap (λ (z : Tracker). (step z m.bit).window.bits) before_is
+        ∙ sym (ap (λ (z : Tracker). z.window.bits) (after-append header-starts parts.back (m.bit ∷ [])))
         ∙ window_header got header-starts got_long
 
     wrong_bit : (i : ℕ) × (verdict_at next (value got) ≡ OneWrongBit i) × (mended_in next (value got) i ≡ header_in next (value (header_bits y)))
@@ -151,11 +151,11 @@ module _ (laws : CodeLaws) where
     abbrev lock' : Lock
     lock' = synced 1 held.0 next (sampled st.samples (value got))
 
-    events : bit_brings (after start (bits (past ++ body))) m.bit ≡ moment.Header mended_only
+    events : bit_brings (after start (bits (past ++ body))) m.bit ≡ Some (moment.Header mended_only)
     unfolding step
     events =
-        ap₂ (λ (c : Control) (w : ℕ). brought c.mode c.place (counted (after start (bits (past ++ body))).come) w) before_control window_is
-        ∙ ap moment.Header (one_events st.mode st.wrong st.confidence x.phase st.samples (value got) wrong_bit.0 held.0
+        ap₂ (λ (c : Control) (w : ℕ). brought c.mode c.place (counted (after start (bits (past ++ body))).window.come) w) before_control window_is
+        ∙ ap (λ (z : HeaderEvents). Some (moment.Header z)) (one_events st.mode st.wrong st.confidence x.phase st.samples (value got) wrong_bit.0 held.0
         cleared.mends cleared.none wrong_bit.1 held.1)
 
     control_after_lem : (step (after start (bits (past ++ body))) m.bit).control ≡ at Detection
@@ -163,7 +163,7 @@ module _ (laws : CodeLaws) where
     unfolding step
     control_after_lem =
         ap₂ (λ (c : Control) (w : ℕ). control_after c.mode c.place
-        (counted (after start (bits (past ++ body))).come) w) before_control window_is
+        (counted (after start (bits (past ++ body))).window.come) w) before_control window_is
         ∙ one_headed st.mode st.wrong st.confidence x.phase st.samples (value got) wrong_bit.0 held.0 cleared.mends
         cleared.none wrong_bit.1 held.1
         ∙ ap (λ (z : headers.Header). at Detection (Payload 47 7 (Some z) lock')) (wrong_bit.2 ∙ header_descrambled laws second)

@@ -103,11 +103,11 @@ fine_after m (Header j l) n w f = fine_head (ltb 0 j) m j l w f
 pub fine_run : (bs : List Bool) (s : Tracker) → Fine s.control.place → Fine (after s bs).control.place
 unfolding step
 fine_run [] s f = f
-fine_run (b ∷ bs) s f = fine_run bs (step s b) (fine_after s.control.mode s.control.place (counted s.come) (shifted s.window b) f)
+fine_run (b ∷ bs) s f = fine_run bs (step s b) (fine_after s.control.mode s.control.place (counted s.window.come) (shifted s.window.bits b) f)
 
 -- the end before the last of some bits
 pub step_last : (b : Bool) (bs : List Bool) (s : Tracker) → Fine s.control.place
     → (s₀ : Tracker) × (c : Bool) × (after s (b ∷ bs) ≡ step s₀ c) × Fine s₀.control.place
 unfolding step
 step_last b [] s f = (s, b, refl, f)
-step_last b (c ∷ bs) s f = step_last c bs (step s b) (fine_after s.control.mode s.control.place (counted s.come) (shifted s.window b) f)
+step_last b (c ∷ bs) s f = step_last c bs (step s b) (fine_after s.control.mode s.control.place (counted s.window.come) (shifted s.window.bits b) f)

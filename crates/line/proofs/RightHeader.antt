@@ -168,7 +168,7 @@ module _ (w q : ℕ) (agree : agrees w ≡ true) (clean : freed q w ≡ 0) (no_f
   right_clears [] s m kept x c u f len i e = absurd (omega arith)
   right_clears (b ∷ bs) s m kept x c u f len i e =
       let t = step_last b bs s f in
-      let win : (step t.0 t.1).window ≡ w = ap (λ (z : Tracker). z.window) (sym t.2) ∙ window_header (b ∷ bs) s len ∙ i in
-      place_cleared t.0.control.mode t.0.control.place (counted t.0.come) m kept x c u t.3
-      (ap (control_after t.0.control.mode t.0.control.place (counted t.0.come)) (sym win) ∙ ap (λ (z : Tracker). z.control) (sym t.2)
+      let win : (step t.0 t.1).window.bits ≡ w = ap (λ (z : Tracker). z.window.bits) (sym t.2) ∙ window_header (b ∷ bs) s len ∙ i in
+      place_cleared t.0.control.mode t.0.control.place (counted t.0.window.come) m kept x c u t.3
+      (ap (control_after t.0.control.mode t.0.control.place (counted t.0.window.come)) (sym win) ∙ ap (λ (z : Tracker). z.control) (sym t.2)
       ∙ e)

@@ -93,10 +93,10 @@ fit_user (Some d) f c e =
     let u = user_by_lem (kind_of d.header) d c e in
     subst Fit u.1 (record { user = not_reserved d.header u.0; whole = f d refl })
 
-kept_payload : (x : Brought) (p : List ℕ) (d : Cell) → cell_in x p ≡ Some d → p ≡ d.payload
-kept_payload moment.Quiet p d e = absurd (let z : ◌≡◌ {A = ℕ} 0 1 = cc in omega arith)
-kept_payload (moment.Header t) p d e = absurd (let z : ◌≡◌ {A = ℕ} 0 1 = cc in omega arith)
-kept_payload (moment.Cell h) p d e = cc
+kept_payload : (x : Option Brought) (p : List ℕ) (d : Cell) → cell_in x p ≡ Some d → p ≡ d.payload
+kept_payload None p d e = absurd (let z : ◌≡◌ {A = ℕ} 0 1 = cc in omega arith)
+kept_payload (Some (moment.Header t)) p d e = absurd (let z : ◌≡◌ {A = ℕ} 0 1 = cc in omega arith)
+kept_payload (Some (moment.Cell h)) p d e = cc
 
 offered_fit : (s : Tracker) (b : Bool) → length s.payload ≡ 48 → (c : Cell) → offered s b ≡ Some c → Fit c
 unfolding kept_cell step

@@ -2,7 +2,7 @@
 -- Knows of the sender that its cells are coded, each at the next phase, and of the code its laws. Knows nothing of the tracker's states.
 --
 --   listed o  the cell o as a list, if there is one
-use Rattle.std.proofs.Common.{◌≡◌, ℕ, zero, suc, ◌+◌, ◌*◌, ◌^◌, ◌<◌, Bool, true, List, [], ◌∷◌, ◌++◌, length, take, drop, Some, None, Option, sym, refl, ap, ◌∙◌, subst, ap₂, append_assoc, arith, length-append, take-append-drop, take_at, drop_at}
+use Rattle.std.proofs.Common.{◌≡◌, ℕ, zero, suc, ◌+◌, ◌*◌, ◌^◌, ◌<◌, Bool, true, List, [], ◌∷◌, ◌++◌, length, take, drop, Some, None, Option, sym, refl, ap, ◌∙◌, subst, append_assoc, arith, length-append, take-append-drop, take_at, drop_at}
 use Rattle.cell.specs.declared.header.Kind.{Kind}
 use Rattle.cell.specs.declared.header.Kind.TheVariants.{Idle, F3, User}
 use Rattle.ports.specs.Cell.{Cell, octets}
@@ -103,10 +103,6 @@ module _ (laws : CodeLaws) {q : ℕ} {x : Send} (c : Carried q x) where
 
   pub payload_long_lem : length (payload_bits x) ≡ 384
   payload_long_lem = ap length c.body ∙ laws.payload_long q x.cell.payload c.payload
-
-  pub cell_long : length (bits_of x.line) ≡ 424
-  cell_long =
-      ap length (cell_bits x) ∙ length-append (header_bits x) (payload_bits x) ∙ ap₂ (λ (m n : ℕ). m + n) header_long_lem payload_long_lem
 
   pub header_agrees : agrees (value (header_bits x)) ≡ true
   header_agrees = ap agrees word ∙ laws.agree q x.cell.header c.fits c.header

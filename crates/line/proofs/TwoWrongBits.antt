@@ -71,13 +71,13 @@ idle_run : (bs : List Bool) (s : Tracker) → length bs ≤ 383 → Idle (length
 unfolding step
 idle_run [] s h i = i
 idle_run (b ∷ bs) s h i = idle_run bs (step s b) (omega arith)
-    (idle_place s.control.mode s.control.place (counted s.come) (shifted s.window b) (length bs) (omega arith) i)
+    (idle_place s.control.mode s.control.place (counted s.window.come) (shifted s.window.bits b) (length bs) (omega arith) i)
 
-quiet_hunt : (t : Bool) (e : HeaderEvents) (xs : List ℕ) → user_cell (cell_in (cond t (moment.Header e) moment.Quiet) xs) ≡ None
+quiet_hunt : (t : Bool) (e : HeaderEvents) (xs : List ℕ) → user_cell (cell_in (cond t (Some (moment.Header e)) None) xs) ≡ None
 quiet_hunt true e xs = refl
 quiet_hunt false e xs = refl
 
-quiet_pay : (t u : Bool) (xs : List ℕ) → user_cell (cell_in (cond t moment.Quiet (cond u moment.Quiet moment.Quiet)) xs) ≡ None
+quiet_pay : (t u : Bool) (xs : List ℕ) → user_cell (cell_in (cond t None (cond u None None)) xs) ≡ None
 quiet_pay true u xs = refl
 quiet_pay false true xs = refl
 quiet_pay false false xs = refl
@@ -90,7 +90,7 @@ idle_quiet m (Header j l) n w xs i = absurd i
 
 idle_offers_none : (s : Tracker) (b : Bool) → Idle 0 s.control.place → offered s b ≡ None
 unfolding kept_cell
-idle_offers_none s b i = idle_quiet s.control.mode s.control.place (counted s.come) (shifted s.window b) (bit_step s b).payload i
+idle_offers_none s b i = idle_quiet s.control.mode s.control.place (counted s.window.come) (shifted s.window.bits b) (bit_step s b).payload i
 
 idle_kept : (t : Bool) (k : Lock) → Idle 383 (Payload 47 7 (cond t None None) k)
 idle_kept true k = omega arith

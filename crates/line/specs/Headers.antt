@@ -39,7 +39,7 @@ noted true false w hs = w ∷ hs
 abbrev pub headers : Tracker → List ℕ → List Bool → List ℕ
 headers s hs [] = hs
 headers s hs (b ∷ bs) =
-    headers (step s b) (noted (ending s.control.place) (hunting (step s b).control.place) (step s b).window hs) bs
+    headers (step s b) (noted (ending s.control.place) (hunting (step s b).control.place) (step s b).window.bits hs) bs
 
 abbrev pub phase_on : ℕ → List ℕ → ℕ
 phase_on p [] = p

@@ -154,7 +154,7 @@ abbrev pub mended_only : HeaderEvents
 mended_only = record { header = Some Mended; boundary = None; descrambler = None }
 
 pub record Restored (s : Tracker) (b : Bool) (y : Send) : Type 0 where
-  pub events : bit_brings s b ≡ moment.Header mended_only
+  pub events : bit_brings s b ≡ Some (moment.Header mended_only)
   pub in_step : InStep (step s b) y.phase
   pub kept : in_step.kept ≡ Some (record { 0 = y.cell.header })
 

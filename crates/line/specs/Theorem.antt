@@ -11,7 +11,7 @@
 --   Sent h           what holds of a sender after the history h of calls on it: each stream that is read off it is a sent stream, begun at
 --                    the phase of its start, so that the laws speak of what any sender's calls write; and the next call makes a history
 --                    again
-use Rattle.std.specs.Prelude.{◌≡◌, ℕ, ◌<◌, ◌≤◌, List, [], ◌∷◌, ◌++◌, length, Result}
+use Rattle.std.specs.Prelude.{◌≡◌, ℕ, ◌<◌, ◌≤◌, List, [], ◌∷◌, ◌++◌, length, Some, Result}
 use Rattle.std.specs.List.{AllByRecursion}
 use Rattle.cell.specs.declared.refusal.Refusal.{Refusal}
 use Rattle.ports.specs.Cell.{User}
@@ -54,7 +54,7 @@ pub record Received {cs : List receiving.Call} {r : Receiver} (h : receiving.His
   -- the moment m of the next feed, with those of the feed before it
   pub mended : (f : receiving.Feed) (n : ℕ) (r' : Receiver) (fed : Feeds f.octets r f.sink f.events n r' f.sink' f.events')
       (before later : List Moment) (m : Moment) → fed.works.moments ≡ before ++ m ∷ later
-      → bit_brings (after start (bits ((heard h).newest ++ before))) m.bit ≡ moment.Header mended_only
+      → bit_brings (after start (bits ((heard h).newest ++ before))) m.bit ≡ Some (moment.Header mended_only)
       → MendedTold (log_run r.tracker (log r f.events) before) (log_run r.tracker (log r f.events) (before ++ m ∷ []))
   -- the next call
   pub feed : (f : receiving.Feed) (r' : Receiver) → FeedAnswer f.octets r f.sink f.events f.answer r' f.sink' f.events'

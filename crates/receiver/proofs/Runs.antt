@@ -1,5 +1,5 @@
 -- Runs of bits: one bit, and one run after another.
-use Rattle.std.proofs.Common.{◌≡◌, ℕ, zero, suc, ◌+◌, ◌<◌, ◌≤◌, Bool, false, nat_eq, List, [], ◌∷◌, ◌++◌, length, get_or, take, sym, refl, ap, ◌∙◌, subst, ap₂, append_assoc, append-nil, arith, take_all}
+use Rattle.std.proofs.Common.{◌≡◌, ℕ, zero, suc, ◌+◌, ◌<◌, ◌≤◌, Bool, false, nat_eq, Option, List, [], ◌∷◌, ◌++◌, length, get_or, take, sym, refl, ap, ◌∙◌, subst, ap₂, append_assoc, append-nil, arith, take_all}
 use Rattle.std.proofs.lemmas.Bool.{false≢true}
 use Rattle.std.proofs.lemmas.List.{take_more}
 use Rattle.ports.specs.Sink.{SinkState}
@@ -17,7 +17,7 @@ use Rattle.receiver.specs.Run.{octet_bits, bits_of, step, after, cell_in, user_c
 
 -- ---- one bit
 
-pub works_one : (r r' : Receiver) (k k' : SinkState) (ring ring' : Ring EventRecord) (b : Bool) (s : Tracker) (m : Brought) (g : Book) (reply : Reply) (n : ℕ)
+pub works_one : (r r' : Receiver) (k k' : SinkState) (ring ring' : Ring EventRecord) (b : Bool) (s : Tracker) (m : Option Brought) (g : Book) (reply : Reply) (n : ℕ)
     → s ≡ bit_step r.tracker b → m ≡ bit_brings r.tracker b → g ≡ bit_counted r.book → r'.tracker ≡ s
     → Handed (user_cell (cell_in m s.payload)) k reply k' → log_of r'.book ring' ≡ brought m s.payload reply (log_of g ring) → n ≡ taken reply
     → Works r k (events_of ring) (b ∷ []) n r' k' (events_of ring')
@@ -26,9 +26,9 @@ works_one r r' k k' ring ring' b s m g reply n es em eg et handed written en =
     record {
       moments = record { bit = b; sink = k; reply = reply; sink' = k' } ∷ [];
       fed = refl;
-      along = (refl, subst (λ (t : Tracker). Handed (user_cell (cell_in (bit_brings r.tracker b) t.payload)) k reply k') es (subst (λ (x : Brought). Handed (user_cell (cell_in x s.payload)) k reply k') em handed), refl);
+      along = (refl, subst (λ (t : Tracker). Handed (user_cell (cell_in (bit_brings r.tracker b) t.payload)) k reply k') es (subst (λ (x : Option Brought). Handed (user_cell (cell_in x s.payload)) k reply k') em handed), refl);
       tracker = et ∙ es;
-      written = written ∙ ap₂ (λ (x : Brought) (t : Tracker). brought x t.payload reply (log_of g ring)) em es
+      written = written ∙ ap₂ (λ (x : Option Brought) (t : Tracker). brought x t.payload reply (log_of g ring)) em es
           ∙ ap (λ (x : Book). brought (bit_brings r.tracker b) (bit_step r.tracker b).payload reply (log_of x ring)) eg;
       answer = (let e = en in omega arith);
     }

@@ -132,10 +132,10 @@ cell_noted F3 p r g = booked (f3_stored p g.book) g
 cell_noted User p None g = g
 cell_noted User p (Some r) g = replied r g
 
-abbrev pub brought : Brought → List ℕ → Reply → Log → Log
-brought moment.Quiet p r g = g
-brought (moment.Header e) p r g = header_noted e g
-brought (moment.Cell h) p r g = cell_noted (kind_of h.0) p r g
+abbrev pub brought : Option Brought → List ℕ → Reply → Log → Log
+brought None p r g = g
+brought (Some (moment.Header e)) p r g = header_noted e g
+brought (Some (moment.Cell h)) p r g = cell_noted (kind_of h.0) p r g
 
 abbrev pub noted : Tracker → Bool → Reply → Log → Log
 noted s b r g = brought (bit_brings s b) (bit_step s b).payload r (booked (bit_counted g.book) g)

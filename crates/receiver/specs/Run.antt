@@ -37,10 +37,10 @@ abbrev pub after : Tracker → List Bool → Tracker
 after s [] = s
 after s (b ∷ bs) = after (step s b) bs
 
-abbrev pub cell_in : Moment → List ℕ → Option Cell
-cell_in moment.Quiet p = None
-cell_in (moment.Header e) p = None
-cell_in (moment.Cell h) p = Some (record { header = h.0; payload = p })
+abbrev pub cell_in : Option Moment → List ℕ → Option Cell
+cell_in None p = None
+cell_in (Some (moment.Header e)) p = None
+cell_in (Some (moment.Cell h)) p = Some (record { header = h.0; payload = p })
 
 unfoldable pub kept_cell : Tracker → Bool → Option Cell
 kept_cell s b = cell_in (bit_brings s b) (bit_step s b).payload

@@ -48,7 +48,7 @@ impl Receiver {
     // Follows up what a bit brought.
     fn follow<S: Sink>(
         &mut self,
-        moment: Moment,
+        moment: Option<Moment>,
         sink: &mut S,
         events: &mut Ring<'_, EventRecord>,
     ) -> Option<Result<(), SinkCause>>
@@ -57,12 +57,12 @@ impl Receiver {
         ensures noted { log_of self.new.book events.new ≡ brought moment self.old.tracker.payload result (log_of self.old.book events.old) }
     {
         match moment {
-            Moment::Quiet => None,
-            Moment::Header(told) => {
+            None => None,
+            Some(Moment::Header(told)) => {
                 self.book.note_header(events, told);
                 None
             }
-            Moment::Cell(header) => self.deliver(header, sink, events),
+            Some(Moment::Cell(header)) => self.deliver(header, sink, events),
         }
     }
 

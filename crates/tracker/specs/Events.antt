@@ -7,8 +7,8 @@
 --   descrambler_event_to d d' b'  layer 3, whether or not the hunt begins
 --   events_on m l w               the events of the header w
 --   decided m l w                 the state after the header w and the events on it
---   ruled m l w u                 what each rule says of the header w, where u are the samples with it
---   settled l u r                 the state and the events that follow from it
+--   ruled m l w                   what each rule says of the header w
+--   settled l r                   the state and the events that follow from it
 --   hunt_ends                     the events of a header that ends a hunt
 use Rattle.std.specs.Prelude.{ℕ, Some, None, Option}
 use Rattle.cell.specs.declared.verdict.Verdict.{Verdict}
@@ -80,20 +80,22 @@ decided m l w = record { control = headed m l w; events = events_on m l w }
 
 -- the same in two steps: what the rules say, and what follows from it
 
-abbrev pub ruled : Mode → Lock → ℕ → ℕ → Decision
-ruled m l w u =
+abbrev pub ruled : Mode → Lock → ℕ → Decision
+ruled m l w =
+    let u : ℕ = sampled l.samples w in
     let d : Descrambler = descrambler_after l.descrambler u w in
     record {
       boundary = delineation_after l.delineation (right l.descrambler w);
       descrambler = d;
+      samples = u;
       mode = mode_after l.descrambler d m w;
       cause = header_event l.descrambler m w;
       taken = header_taken l.descrambler m w;
     }
 
-abbrev pub settled : Lock → ℕ → Decision → Headed
-settled l u r = record {
-  control = entered l r.taken r.descrambler u r.mode r.boundary;
+abbrev pub settled : Lock → Decision → Headed
+settled l r = record {
+  control = entered l r.taken r.descrambler r.samples r.mode r.boundary;
   events = record {
     header = r.cause;
     boundary = boundary_event l.delineation r.boundary;

@@ -11,7 +11,7 @@
 --   mode_after d e m w       the mode m after the header, where the descrambler d becomes e
 --   header_taken d m w       the header of the cell, descrambled, where it is valid or mended
 --   in_step l                SYNC and Steady
---   phase_of d               the phase of the cell that is coming in
+--   phase_of d               the phase of the cell that is coming in, once one is found
 --   sampled u w              the samples of the last sixteen headers, this one the newest
 --   payload_to l k h         the payload of the cell, which is kept if a header h was taken and the end is in step both before (l) and
 --                            after (k) it
@@ -68,10 +68,10 @@ descrambler_after (Acquisition c) u w = acquire (agrees w) c u
 descrambler_after (Verification c p) u w = verify (agrees w) (samples_in w == predicted (next_phase p)) c (next_phase p)
 descrambler_after (Steady c p) u w = hold (sample_fault (freed (next_phase p) w)) c (next_phase p)
 
-abbrev pub phase_of : Descrambler → ℕ
-phase_of (Acquisition c) = 0
-phase_of (Verification c p) = p
-phase_of (Steady c p) = p
+abbrev pub phase_of : Descrambler → Option ℕ
+phase_of (Acquisition c) = None
+phase_of (Verification c p) = Some p
+phase_of (Steady c p) = Some p
 
 -- two bits a header, in 32 bits
 unfoldable pub sampled : ℕ → ℕ → ℕ

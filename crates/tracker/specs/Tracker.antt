@@ -3,7 +3,10 @@
 --   hunted n w             hunting: once 40 bits have come (n), a header w that agrees ends the hunt; else it goes on
 --   control_after m a n w  the state after a bit that fell at the place a, where w are the last 40 bits with it
 --   filled a w xs          the payload xs with that bit: each whole octet goes to its place, and the last bit of a kept cell descrambles it
---   brought m a n w        what the bit brings: nothing, a header and its events, or the last bit of a kept cell
+--   brought m a n w        what the bit brings: a header and its events, the last bit of a kept cell, or nothing
+--   moved a s              the end s after its newest bit, which fell at the place a
+--   brings_at a s          what that bit brings
+--   with_bit s b           the end s with the bit b among the last 40, and not moved on
 --   bit_step s b           the end s after the bit b
 --   bit_brings s b         what the bit b brings
 --   start                  an end that was made or reset: HUNT, correction mode, no bits
@@ -19,7 +22,7 @@ use Rattle.tracker.specs.declared.state.Control.{Control}
 use Rattle.tracker.specs.declared.tracker.Tracker.{Tracker}
 use Rattle.tracker.specs.declared.tracker.Moment.{Moment}
 use Rattle.tracker.specs.declared.tracker.Moment.TheVariants as moment
-use Rattle.tracker.specs.Window.{agrees, shifted, counted}
+use Rattle.tracker.specs.Window.{agrees, pushed}
 use Rattle.tracker.specs.Rules.{both, headed, locked_on, phase_of}
 use Rattle.tracker.specs.Events.{events_on, hunt_ends}
 
@@ -33,9 +36,14 @@ control_after m (Payload o b k l) n w =
     record { mode = m; place = cond (nat_lt 0 b) (Payload o (b - 1) k l) (cond (nat_lt 0 o) (Payload (o - 1) 7 k l) (Header 39 l)) }
 control_after m (Header j l) n w = cond (nat_lt 0 j) (record { mode = m; place = Header (j - 1) l }) (headed m l w)
 
+-- a kept cell has a phase
+abbrev pub unmasked : Option ℕ → List ℕ → List ℕ
+unmasked None xs = xs
+unmasked (Some p) xs = masked 8 p xs
+
 abbrev pub descrambled : Option headers.Header → Lock → List ℕ → List ℕ
 descrambled None l xs = xs
-descrambled (Some h) l xs = masked 8 (phase_of l.descrambler) xs
+descrambled (Some h) l xs = unmasked (phase_of l.descrambler) xs
 
 abbrev pub filled : Place → ℕ → List ℕ → List ℕ
 filled Hunt w xs = xs
@@ -43,23 +51,38 @@ filled (Payload o b k l) w xs =
     cond (nat_lt 0 b) xs (cond (nat_lt 0 o) (slice_set xs (47 - o) (w % 2 ^ 8)) (descrambled k l (slice_set xs (47 - o) (w % 2 ^ 8))))
 filled (Header j l) w xs = xs
 
-abbrev pub cell_ends : Option headers.Header → Moment
-cell_ends None = moment.Quiet
-cell_ends (Some h) = moment.Cell h
+abbrev pub cell_ends : Option headers.Header → Option Moment
+cell_ends None = None
+cell_ends (Some h) = Some (moment.Cell h)
 
-abbrev pub brought : Mode → Place → ℕ → ℕ → Moment
-brought m Hunt n w = cond (both (n == 40) (agrees w)) (moment.Header hunt_ends) moment.Quiet
-brought m (Payload o b k l) n w = cond (nat_lt 0 b) moment.Quiet (cond (nat_lt 0 o) moment.Quiet (cell_ends k))
-brought m (Header j l) n w = cond (nat_lt 0 j) moment.Quiet (moment.Header (events_on m l w))
+abbrev pub brought : Mode → Place → ℕ → ℕ → Option Moment
+brought m Hunt n w = cond (both (n == 40) (agrees w)) (Some (moment.Header hunt_ends)) None
+brought m (Payload o b k l) n w = cond (nat_lt 0 b) None (cond (nat_lt 0 o) None (cell_ends k))
+brought m (Header j l) n w = cond (nat_lt 0 j) None (Some (moment.Header (events_on m l w)))
+
+abbrev pub moved : Place → Tracker → Tracker
+moved a s = record {
+  window = s.window;
+  control = control_after s.control.mode a s.window.come s.window.bits;
+  payload = filled a s.window.bits s.payload;
+}
+
+abbrev pub brings_at : Place → Tracker → Option Moment
+brings_at a s = brought s.control.mode a s.window.come s.window.bits
+
+-- the bit b joins the others before its place is looked at
+abbrev pub with_bit : Tracker → Bool → Tracker
+with_bit s b = record { window = pushed s.window b; control = s.control; payload = s.payload }
 
 abbrev pub bit_step : Tracker → Bool → Tracker
-bit_step s b =
-    let w : ℕ = shifted s.window b in
-    let n : ℕ = counted s.come in
-    record { window = w; come = n; control = control_after s.control.mode s.control.place n w; payload = filled s.control.place w s.payload }
+bit_step s b = moved s.control.place (with_bit s b)
 
-abbrev pub bit_brings : Tracker → Bool → Moment
-bit_brings s b = brought s.control.mode s.control.place (counted s.come) (shifted s.window b)
+abbrev pub bit_brings : Tracker → Bool → Option Moment
+bit_brings s b = brings_at s.control.place (with_bit s b)
 
 abbrev pub start : Tracker
-start = record { window = 0; come = 0; control = record { mode = Correction; place = Hunt }; payload = replicate 48 0 }
+start = record {
+  window = record { bits = 0; come = 0 };
+  control = record { mode = Correction; place = Hunt };
+  payload = replicate 48 0;
+}

@@ -1,14 +1,14 @@
 // What can happen at a header, by layers.
 
 // Layer 1, the header itself.
-#[derive(Clone, Copy, PartialEq, Eq, Drop)]
+#[derive(Clone, Copy, Debug, PartialEq, Eq, Hash)]
 pub enum HeaderCause {
     Mended,
     Discarded,
 }
 
 // Layer 2, the cell boundary.
-#[derive(Clone, Copy, PartialEq, Eq, Drop)]
+#[derive(Clone, Copy, Debug, PartialEq, Eq, Hash)]
 pub enum BoundaryCause {
     Presync,
     Sync,
@@ -17,7 +17,7 @@ pub enum BoundaryCause {
 }
 
 // Layer 3, the descrambler.
-#[derive(Clone, Copy, PartialEq, Eq, Drop)]
+#[derive(Clone, Copy, Debug, PartialEq, Eq, Hash)]
 pub enum DescramblerCause {
     Verification,
     Steady,
@@ -25,7 +25,7 @@ pub enum DescramblerCause {
 }
 
 // The events of one header: at most one in each layer.
-#[derive(Clone, Copy, Drop)]
+#[derive(Clone, Copy, Debug, PartialEq, Eq, Hash)]
 pub struct HeaderEvents {
     pub header: Option<HeaderCause>,
     pub boundary: Option<BoundaryCause>,

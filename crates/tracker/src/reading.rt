@@ -1,12 +1,12 @@
 // What can be read of a tracker's state.
 ghost use Rattle.std.specs.Prelude.{◌≡◌};
-ghost use Rattle.tracker.specs.Reading.{state_of, locked_state};
+ghost use Rattle.tracker.specs.Reading.{boundary_of, state_of};
 
-use crate::state::{Delineation, Descrambler, Lock, Mode, Place};
+use crate::state::{Delineation, Descrambler, Mode, Place};
 use crate::tracker::Tracker;
 
-// The cell boundary: hunted for, or assumed.
-#[derive(Clone, Copy, PartialEq, Eq, Drop)]
+// The cell boundary: hunted for, or assumed. No Option of a Delineation: HUNT is a state that has a name, and is printed by it.
+#[derive(Clone, Copy, Debug, PartialEq, Eq, Hash)]
 pub enum Boundary {
     Hunt,
     // with the agreeing headers since the one that ended the hunt
@@ -15,28 +15,23 @@ pub enum Boundary {
     Sync(u8),
 }
 
+impl From<Delineation> for Boundary {
+    ghost from_gives = { λ delineation boundary. boundary ≡ boundary_of delineation };
+
+    fn from(delineation: Delineation) -> Boundary {
+        match delineation {
+            Delineation::Presync(agreeing) => Boundary::Presync(agreeing),
+            Delineation::Sync(wrong) => Boundary::Sync(wrong),
+        }
+    }
+}
+
 // The state that headers lead to. In HUNT the descrambler is in Acquisition with confidence 0.
-#[derive(Clone, Copy, PartialEq, Eq, Drop)]
+#[derive(Clone, Copy, Debug, PartialEq, Eq, Hash)]
 pub struct State {
     pub boundary: Boundary,
     pub descrambler: Descrambler,
     pub mode: Mode,
-}
-
-impl State {
-    fn locked(lock: Lock, mode: Mode) -> State
-        ensures { result ≡ locked_state lock mode }
-    {
-        let boundary = match lock.delineation {
-            Delineation::Presync(agreeing) => Boundary::Presync(agreeing),
-            Delineation::Sync(wrong) => Boundary::Sync(wrong),
-        };
-        State {
-            boundary,
-            descrambler: lock.descrambler,
-            mode,
-        }
-    }
 }
 
 impl Tracker {
@@ -51,10 +46,11 @@ impl Tracker {
                 descrambler: Descrambler::Acquisition(0),
                 mode: control.mode,
             },
-            Place::Payload(_, _, _, lock) | Place::Header(_, lock) => State::locked(
-                lock,
-                control.mode,
-            ),
+            Place::Payload { lock, .. } | Place::Header { lock, .. } => State {
+                boundary: Boundary::from(lock.delineation),
+                descrambler: lock.descrambler,
+                mode: control.mode,
+            },
         }
     }
 }

@@ -1,13 +1,13 @@
 // The rules at a header: the boundary, the descrambler, mending and the events on them, decided together.
 ghost use Rattle.std.specs.Prelude.{◌≡◌};
 ghost use Rattle.tracker.specs.Events.{boundary_event, descrambler_event, ruled, settled, decided};
-ghost use Rattle.tracker.specs.Rules.{acquire, verify, hold, delineation_after, begun, mode_on, in_step, phase_of, sampled, payload_to, locked_on};
+ghost use Rattle.tracker.specs.Rules.{acquire, verify, hold, delineation_after, begun, mode_on, in_step, sampled, payload_to, locked_on};
 
 use crate::events::{BoundaryCause, DescramblerCause, HeaderCause, HeaderEvents};
 use crate::state::{
     Control, Delineation, Descrambler, Headed, LAST_BIT, LAST_OCTET, Lock, Mode, Place,
 };
-use crate::window::{agrees, freed, header_in, mended_in, predicted, sample_fault, samples_in};
+use crate::window::{Window, sample_fault};
 use cell::header::Header;
 use cell::verdict::Verdict;
 use scrambler::finder::find_phase;
@@ -32,14 +32,14 @@ fn acquire(agrees: bool, confidence: u8, samples: u32) -> Descrambler
     ensures { result ≡ acquire agrees confidence samples }
 {
     if !agrees {
-        return Descrambler::Acquisition(0);
-    }
-    if confidence < CONFIDENCE_FOUND - 1 {
-        return Descrambler::Acquisition(confidence + 1);
-    }
-    match find_phase(samples % 0x8000_0000) {
-        Ok(phase) => Descrambler::Verification(CONFIDENCE_FOUND, phase),
-        Err(_) => Descrambler::Acquisition(0),
+        Descrambler::Acquisition(0)
+    } else if confidence < CONFIDENCE_FOUND - 1 {
+        Descrambler::Acquisition(confidence + 1)
+    } else {
+        match find_phase(samples % 0x8000_0000) {
+            Ok(phase) => Descrambler::Verification(CONFIDENCE_FOUND, phase),
+            Err(_) => Descrambler::Acquisition(0),
+        }
     }
 }
 
@@ -47,18 +47,16 @@ fn acquire(agrees: bool, confidence: u8, samples: u32) -> Descrambler
 fn verify(agrees: bool, as_predicted: bool, confidence: u8, phase: u32) -> Descrambler
     ensures { result ≡ verify agrees as_predicted confidence phase }
 {
-    if !agrees {
-        Descrambler::Verification(confidence, phase)
-    } else if as_predicted {
-        if confidence < CONFIDENCE_STEADY - 1 {
+    match (agrees, as_predicted) {
+        (false, _) => Descrambler::Verification(confidence, phase),
+        (true, true) if confidence < CONFIDENCE_STEADY - 1 => {
             Descrambler::Verification(confidence + 1, phase)
-        } else {
-            Descrambler::Steady(CONFIDENCE_STEADY, phase)
         }
-    } else if confidence > LEAST_IN_VERIFICATION {
-        Descrambler::Verification(confidence - 1, phase)
-    } else {
-        Descrambler::Acquisition(0)
+        (true, true) => Descrambler::Steady(CONFIDENCE_STEADY, phase),
+        (true, false) if confidence > LEAST_IN_VERIFICATION => {
+            Descrambler::Verification(confidence - 1, phase)
+        }
+        (true, false) => Descrambler::Acquisition(0),
     }
 }
 
@@ -66,12 +64,10 @@ fn verify(agrees: bool, as_predicted: bool, confidence: u8, phase: u32) -> Descr
 fn hold(fault: bool, confidence: u8, phase: u32) -> Descrambler
     ensures { result ≡ hold fault confidence phase }
 {
-    if fault {
-        if confidence > LEAST_IN_STEADY {
-            Descrambler::Steady(confidence - 1, phase)
-        } else {
-            Descrambler::Acquisition(0)
-        }
+    if fault && confidence > LEAST_IN_STEADY {
+        Descrambler::Steady(confidence - 1, phase)
+    } else if fault {
+        Descrambler::Acquisition(0)
     } else if confidence < CONFIDENCE_STEADY {
         Descrambler::Steady(confidence + 1, phase)
     } else {
@@ -79,28 +75,20 @@ fn hold(fault: bool, confidence: u8, phase: u32) -> Descrambler
     }
 }
 
-// The boundary after a header; none is assumed in HUNT.
-fn delineation_after(delineation: Delineation, right: bool) -> Option<Delineation>
-    ensures { result ≡ delineation_after delineation right }
-{
-    match delineation {
-        Delineation::Presync(n) => {
-            if !right {
-                None
-            } else if n < PRESYNC_CONFIRMATIONS - 1 {
+impl Delineation {
+    // The boundary after a header; none is assumed in HUNT.
+    fn after(self, right: bool) -> Option<Delineation>
+        ensures { result ≡ delineation_after self right }
+    {
+        match (self, right) {
+            (Delineation::Presync(n), true) if n < PRESYNC_CONFIRMATIONS - 1 => {
                 Some(Delineation::Presync(n + 1))
-            } else {
-                Some(Delineation::Sync(0))
             }
-        }
-        Delineation::Sync(n) => {
-            if right {
-                Some(Delineation::Sync(0))
-            } else if n < WRONG_HEADERS_TO_HUNT - 1 {
+            (_, true) => Some(Delineation::Sync(0)),
+            (Delineation::Sync(n), false) if n < WRONG_HEADERS_TO_HUNT - 1 => {
                 Some(Delineation::Sync(n + 1))
-            } else {
-                None
             }
+            (_, false) => None,
         }
     }
 }
@@ -151,39 +139,31 @@ fn mode_on(verdict: Verdict) -> Mode
     }
 }
 
-// The phase of the cell that is coming in; 0 while none is known.
-pub(crate) fn phase_of(descrambler: Descrambler) -> u32
-    ensures { result ≡ phase_of descrambler }
-{
-    match descrambler {
-        Descrambler::Acquisition(_) => 0,
-        Descrambler::Verification(_, phase) | Descrambler::Steady(_, phase) => phase,
-    }
-}
-
-// The samples of the last sixteen headers, with those of one header more.
-fn sampled(samples: u32, window: u64) -> u32
-    ensures { result ≡ sampled samples window }
-{
-    samples % 0x4000_0000 * 4 + u32::from(samples_in(window))
-}
-
 // What the rules say of a header.
-#[derive(Clone, Copy, Drop)]
+#[derive(Clone, Copy, Debug)]
 struct Decision {
     // none is assumed in HUNT
     boundary: Option<Delineation>,
     descrambler: Descrambler,
+    samples: u32,
     mode: Mode,
     cause: Option<HeaderCause>,
     // the header of the cell, where it is valid or mended
     taken: Option<Header>,
 }
 
+// The samples of the last sixteen headers, with those of one header more.
+#[tactic(auto, unfolding(crate::specs::Rules::sampled))]
+fn sampled(samples: u32, window: Window) -> u32
+    ensures { result ≡ sampled samples window.bits }
+{
+    samples % 0x4000_0000 * 4 + u32::from(window.samples())
+}
+
 impl Lock {
     // What is known after a header that ends a hunt.
-    pub(crate) fn on(window: u64) -> Lock
-        ensures { result ≡ locked_on window }
+    pub(crate) fn on(window: Window) -> Lock
+        ensures { result ≡ locked_on window.bits }
     {
         Lock {
             delineation: Delineation::Presync(0),
@@ -196,85 +176,90 @@ impl Lock {
     fn in_step(self) -> bool
         ensures { result ≡ in_step self }
     {
-        match (self.delineation, self.descrambler) {
-            (Delineation::Sync(_), Descrambler::Steady(_, _)) => true,
-            _ => false,
-        }
+        matches!(
+            (self.delineation, self.descrambler),
+            (Delineation::Sync(_), Descrambler::Steady(_, _))
+        )
     }
 
     // The state after a header and the events on it, decided together.
-    pub(crate) fn take_header(self, mode: Mode, window: u64) -> Headed
-        ensures { result ≡ decided mode self window }
+    pub(crate) fn take_header(self, mode: Mode, window: Window) -> Headed
+        ensures { result ≡ decided mode self window.bits }
     {
-        let samples = sampled(self.samples, window);
-        self.settle(samples, self.decide(mode, window, samples))
+        self.settle(self.decide(mode, window))
     }
 
-    // What the rules say of a header, by the state before it and the verdict on the header. While no phase is known the verdict counts
-    // for nothing.
-    fn decide(self, mode: Mode, window: u64, samples: u32) -> Decision
-        ensures { result ≡ ruled mode self window samples }
+    // What the rules say of a header, by the state before it and, in Steady, the verdict on the header.
+    fn decide(self, mode: Mode, window: Window) -> Decision
+        ensures { result ≡ ruled mode self window.bits }
     {
-        let phase = next_phase(phase_of(self.descrambler));
-        let syndrome = freed(phase, window);
-        let verdict = Verdict::from(syndrome);
-        match (self.delineation, self.descrambler, verdict) {
-            (boundary, Descrambler::Acquisition(confidence), _) => {
-                let agrees = agrees(window);
+        let samples = sampled(self.samples, window);
+        match (self.delineation, self.descrambler) {
+            (boundary, Descrambler::Acquisition(confidence)) => {
+                let agrees = window.agrees();
                 Decision {
-                    boundary: delineation_after(boundary, agrees),
+                    boundary: boundary.after(agrees),
                     descrambler: acquire(agrees, confidence, samples),
+                    samples,
                     mode,
                     cause: None,
                     taken: None,
                 }
             }
-            (boundary, Descrambler::Verification(confidence, _), _) => {
-                let agrees = agrees(window);
-                let as_predicted = samples_in(window) == predicted(phase);
+            (boundary, Descrambler::Verification(confidence, phase)) => {
+                let phase = next_phase(phase);
+                let agrees = window.agrees();
+                let as_predicted = window.is_as_predicted(phase);
                 let descrambler = verify(agrees, as_predicted, confidence, phase);
                 Decision {
-                    boundary: delineation_after(boundary, agrees),
+                    boundary: boundary.after(agrees),
                     descrambler,
+                    samples,
                     mode: mode_begun(descrambler, mode),
                     cause: None,
                     taken: None,
                 }
             }
-            (boundary, Descrambler::Steady(confidence, _), Verdict::Clean) => Decision {
-                boundary: delineation_after(boundary, true),
-                descrambler: hold(sample_fault(syndrome), confidence, phase),
-                mode: mode_on(verdict),
-                cause: None,
-                taken: Some(header_in(phase, window)),
-            },
-            (boundary, Descrambler::Steady(confidence, _), Verdict::OneWrongBit(bit)) => {
-                let (cause, taken) = match mode {
-                    Mode::Correction => (HeaderCause::Mended, Some(mended_in(phase, window, bit))),
-                    Mode::Detection => (HeaderCause::Discarded, None),
-                };
-                Decision {
-                    boundary: delineation_after(boundary, false),
-                    descrambler: hold(sample_fault(syndrome), confidence, phase),
-                    mode: mode_on(verdict),
-                    cause: Some(cause),
-                    taken,
+            (boundary, Descrambler::Steady(confidence, phase)) => {
+                let phase = next_phase(phase);
+                let syndrome = window.freed(phase);
+                let verdict = Verdict::from(syndrome);
+                let descrambler = hold(sample_fault(syndrome), confidence, phase);
+                match (mode, verdict) {
+                    (_, Verdict::Clean) => Decision {
+                        boundary: boundary.after(true),
+                        descrambler,
+                        samples,
+                        mode: mode_on(verdict),
+                        cause: None,
+                        taken: Some(window.header(phase)),
+                    },
+                    (Mode::Correction, Verdict::OneWrongBit(bit)) => Decision {
+                        boundary: boundary.after(false),
+                        descrambler,
+                        samples,
+                        mode: mode_on(verdict),
+                        cause: Some(HeaderCause::Mended),
+                        taken: Some(window.mended(phase, bit)),
+                    },
+                    (Mode::Detection, Verdict::OneWrongBit(_)) | (_, Verdict::PastMending) =>
+                        Decision {
+                            boundary: boundary.after(false),
+                            descrambler,
+                            samples,
+                            mode: mode_on(verdict),
+                            cause: Some(HeaderCause::Discarded),
+                            taken: None,
+                        },
                 }
             }
-            (boundary, Descrambler::Steady(confidence, _), Verdict::PastMending) => Decision {
-                boundary: delineation_after(boundary, false),
-                descrambler: hold(sample_fault(syndrome), confidence, phase),
-                mode: mode_on(verdict),
-                cause: Some(HeaderCause::Discarded),
-                taken: None,
-            },
         }
     }
 
     // The state that a decision leads to, and the events on the way from this one to it. The cell is kept if its header was taken and
     // the end is in step both before and after.
-    fn settle(self, samples: u32, decision: Decision) -> Headed
-        ensures { result ≡ settled self samples decision }
+    fn settle(self, decision: Decision) -> Headed
+        ensures { result ≡ settled self decision }
     {
         let boundary = boundary_event(self.delineation, decision.boundary);
         match decision.boundary {
@@ -293,7 +278,7 @@ impl Lock {
                 let next = Lock {
                     delineation,
                     descrambler: decision.descrambler,
-                    samples,
+                    samples: decision.samples,
                 };
                 Headed {
                     control: Control {
@@ -314,10 +299,15 @@ impl Lock {
     fn payload_to(self, next: Lock, taken: Option<Header>) -> Place
         ensures { result ≡ payload_to self next taken }
     {
-        if self.in_step() && next.in_step() {
-            Place::Payload(LAST_OCTET, LAST_BIT, taken, next)
-        } else {
-            Place::Payload(LAST_OCTET, LAST_BIT, None, next)
+        Place::Payload {
+            octets: LAST_OCTET,
+            bits: LAST_BIT,
+            kept: if self.in_step() && next.in_step() {
+                taken
+            } else {
+                None
+            },
+            lock: next,
         }
     }
 }

@@ -1,7 +1,0 @@
-use Rattle.std.proofs.Common.{rules}
-use Rattle.tracker.specs.Window.{agrees}
-use Rattle.tracker.proofs.window.agrees.Goals as goal
-
-pub returns : goal.returns
-unfolding agrees
-returns c = search rules

@@ -1,7 +1,0 @@
-use Rattle.std.proofs.Common.{rules}
-use Rattle.tracker.specs.Window.{freed}
-use Rattle.tracker.proofs.window.freed.Goals as goal
-
-pub returns : goal.returns
-unfolding freed
-returns c = search rules

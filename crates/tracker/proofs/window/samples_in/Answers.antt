@@ -1,7 +1,0 @@
-use Rattle.std.proofs.Common.{rules}
-use Rattle.tracker.specs.Window.{samples_in}
-use Rattle.tracker.proofs.window.samples_in.Goals as goal
-
-pub returns : goal.returns
-unfolding samples_in
-returns c = search rules

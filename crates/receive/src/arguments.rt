@@ -50,10 +50,7 @@ impl Arguments {
     fn take(self, word: &str) -> Result<Arguments, Why>
         ensures { result ≡ taken self word.now }
     {
-        match Name::of(word) {
-            Some(name) => self.give(name),
-            None => Err(Why::Unknown),
-        }
+        self.give(word.parse()?)
     }
 
     // Gives an argument that was not given before.

@@ -5,14 +5,14 @@
 --   taken g word          the same, by the word that names the argument
 --   read_from g at words  what is given after all words, of which the first is number `at`, or the number of the word at fault, and why
 --   parsed words          what the words ask for
-use Rattle.std.specs.Prelude.{ℕ, ◌+◌, true, false, cond, List, [], ◌∷◌, Some, None, Ok, Err, Result}
-use Rattle.receive.specs.Name.{name_of}
+use Rattle.std.specs.Prelude.{ℕ, ◌+◌, true, false, cond, List, [], ◌∷◌, Ok, Err, Result}
+use Rattle.command_line.specs.declared.fault.Fault.{Fault}
+use Rattle.receive.specs.Name.{named}
 use Rattle.receive.specs.declared.name.Name.{Name}
 use Rattle.receive.specs.declared.name.Name.TheVariants.{Payloads, Events}
 use Rattle.receive.specs.declared.arguments.Arguments.{Arguments}
-use Rattle.receive.specs.declared.arguments.Fault.{Fault}
 use Rattle.receive.specs.declared.arguments.Why.{Why}
-use Rattle.receive.specs.declared.arguments.Why.TheVariants.{Unknown, Repeated}
+use Rattle.receive.specs.declared.arguments.Why.TheVariants.{Repeated}
 
 abbrev pub nothing : Arguments
 nothing = record { payloads = false; events = false }
@@ -22,11 +22,11 @@ gave g Payloads = cond g.payloads (Err Repeated) (Ok (record { payloads = true; 
 gave g Events = cond g.events (Err Repeated) (Ok (record { payloads = g.payloads; events = true }))
 
 abbrev pub taken : Arguments → List ℕ → Result Arguments Why
-taken g word = elim (name_of word) [ None ↦ Err Unknown | Some n ↦ gave g n ]
+taken g word = elim (named word) [ Ok n ↦ gave g n | Err why ↦ Err why ]
 
-unfoldable pub read_from : Arguments → ℕ → List (List ℕ) → Result Arguments Fault
+unfoldable pub read_from : Arguments → ℕ → List (List ℕ) → Result Arguments (Fault Why)
 read_from g at [] = Ok g
 read_from g at (word ∷ words) = elim (taken g word) [ Ok g' ↦ read_from g' (at + 1) words | Err e ↦ Err (record { at = at; why = e }) ]
 
-abbrev pub parsed : List (List ℕ) → Result Arguments Fault
+abbrev pub parsed : List (List ℕ) → Result Arguments (Fault Why)
 parsed words = read_from nothing 0 words

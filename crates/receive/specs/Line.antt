@@ -13,9 +13,9 @@ use Rattle.cell.specs.declared.refusal.Refusal.{Refusal}
 use Rattle.ring.specs.declared.ring.Ring.{Ring}
 use Rattle.ports.specs.CellRing.{ring_state}
 use Rattle.ports.specs.declared.user_cell.UserCell.{UserCell}
-use Rattle.tracker.specs.Reading.{state_of}
 use Rattle.receiver.specs.Feed.{Feeds, events_of}
 use Rattle.receiver.specs.declared.event.EventRecord.{EventRecord}
+use Rattle.receiver_words.specs.Readings.{readings_of}
 use Rattle.receive.specs.declared.line.Line.{Line}
 use Rattle.receive.specs.declared.line.Tally.{Tally}
 use Rattle.receive.specs.declared.summary.Summary.{Summary}
@@ -39,9 +39,4 @@ Fed os n l cells events l' cells' events' =
     × (l'.tally ≡ counted (length os) n l.tally)
 
 abbrev pub summary_of : Line → Summary
-summary_of l = record {
-  tally = l.tally;
-  bits = l.receiver.book.bits;
-  counters = l.receiver.book.counters;
-  state = state_of l.receiver.tracker;
-}
+summary_of l = record { tally = l.tally; readings = readings_of l.receiver }

@@ -3,8 +3,11 @@
 --   spelling n      how an argument is named
 --   if_named w n o  n if the word w names it, and else o
 --   name_of word    the argument that the word names, if it names one
-use Rattle.std.specs.Prelude.{ℕ, cond, List, Some, None, codes, Option}
+--   named word      the same, or that it names none
+use Rattle.std.specs.Prelude.{ℕ, cond, List, Some, None, Ok, Err, codes, Option, Result}
 use Rattle.std.specs.Str.{bytes_eq}
+use Rattle.receive.specs.declared.arguments.Why.{Why}
+use Rattle.receive.specs.declared.arguments.Why.TheVariants.{Unknown}
 use Rattle.receive.specs.declared.name.Name.{Name}
 use Rattle.receive.specs.declared.name.Name.TheVariants.{Payloads, Events}
 
@@ -17,3 +20,6 @@ if_named word n others = cond (bytes_eq word (spelling n)) (Some n) others
 
 abbrev pub name_of : List ℕ → Option Name
 name_of word = if_named word Payloads (if_named word Events None)
+
+abbrev pub named : List ℕ → Result Name Why
+named word = elim (name_of word) [ None ↦ Err Unknown | Some n ↦ Ok n ]

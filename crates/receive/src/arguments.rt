@@ -1,12 +1,13 @@
 // The arguments: what they ask for, or why they are refused.
 ghost use Rattle.std.specs.Prelude.{◌≡◌, ◌+◌, ◌^◌, ◌<◌, map, length, string_bytes};
-ghost use Rattle.receive.specs.Arguments.{nothing, gave, taken, read_from, parsed};
+ghost use Rattle.receive.specs.Arguments.{gave, taken, read_from, parsed};
 
 use crate::name::Name;
+use command_line::fault::Fault;
 use std::fmt;
 
 // What the arguments ask for.
-#[derive(Clone, Copy, Drop)]
+#[derive(Clone, Copy, Debug, Default, PartialEq, Eq, Drop)]
 pub struct Arguments {
     // only the payloads of cells are written
     pub payloads: bool,
@@ -14,14 +15,8 @@ pub struct Arguments {
     pub events: bool,
 }
 
-// Why the arguments are refused, and which word is at fault, counted from 0.
-#[derive(Clone, Copy, Drop)]
-pub struct Fault {
-    pub at: usize,
-    pub why: Why,
-}
-
-#[derive(Clone, Copy, Drop)]
+// Why the arguments are refused: what is wrong with the one that a word names.
+#[derive(Clone, Copy, Debug, PartialEq, Eq, Drop)]
 pub enum Why {
     // no argument has this name
     Unknown,
@@ -31,29 +26,17 @@ pub enum Why {
 
 impl Arguments {
     // What the words ask for, one to an argument, in any order.
-    pub fn parse(words: &[String]) -> Result<Arguments, Fault>
+    pub fn parse(words: &[String]) -> Result<Arguments, Fault<Why>>
         ensures { result ≡ parsed (map string_bytes words.now) }
     {
-        read(Arguments::nothing(), 0, words)
-    }
-
-    fn nothing() -> Arguments
-        ensures { result ≡ nothing }
-    {
-        Arguments {
-            payloads: false,
-            events: false,
-        }
+        read(Arguments::default(), 0, words)
     }
 
     // Takes an argument, by the word that names it.
     fn take(self, word: &str) -> Result<Arguments, Why>
         ensures { result ≡ taken self word.now }
     {
-        match Name::of(word) {
-            Some(name) => self.give(name),
-            None => Err(Why::Unknown),
-        }
+        self.give(word.parse()?)
     }
 
     // Gives an argument that was not given before.
@@ -76,16 +59,16 @@ impl Arguments {
 }
 
 // Reads the words from number `at` on, where those before them gave what is given.
-fn read(given: Arguments, at: usize, words: &[String]) -> Result<Arguments, Fault>
+fn read(given: Arguments, at: usize, words: &[String]) -> Result<Arguments, Fault<Why>>
     requires { at + length words.now < 2 ^ 64 }
     ensures { result ≡ read_from given at (map string_bytes words.now) }
 {
     match words {
         [] => Ok(given),
-        [word, rest @ ..] => match given.take(word.as_str()) {
-            Ok(given) => read(given, at + 1, rest),
-            Err(why) => Err(Fault { at, why }),
-        },
+        [word, rest @ ..] => {
+            let given = given.take(word.as_str()).map_err(|why| Fault { at, why })?;
+            read(given, at + 1, rest)
+        }
     }
 }
 

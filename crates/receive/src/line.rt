@@ -1,6 +1,5 @@
 // The line as it comes in: the receiving end, and how much came so far.
 ghost use Rattle.std.specs.Prelude.{◌≡◌, length};
-ghost use Rattle.tracker.specs.Reading.{state_of};
 ghost use Rattle.receiver.specs.Feed.{made, events_of, FeedAnswer, Untouched};
 ghost use Rattle.receive.specs.Line.{none, counted, counted_feed, summary_of};
 
@@ -9,10 +8,11 @@ use cell::refusal::Refusal;
 use ports::sink::Sink;
 use receiver::event::EventRecord;
 use receiver::receiver::Receiver;
+use receiver_words::readings::Readings;
 use ring::ring::Ring;
 
 // What came in. A counter stops at its top.
-#[derive(Clone, Copy, Drop)]
+#[derive(Clone, Copy, Debug, Default, PartialEq, Eq, Drop)]
 pub struct Tally {
     // octets of the line
     pub octets: u64,
@@ -34,10 +34,7 @@ impl Line {
     {
         Line {
             receiver: Receiver::new(),
-            tally: Tally {
-                octets: 0,
-                cells: 0,
-            },
+            tally: Tally::default(),
         }
     }
 
@@ -65,9 +62,7 @@ impl Line {
     {
         Summary {
             tally: self.tally,
-            bits: self.receiver.bits(),
-            counters: self.receiver.counters(),
-            state: self.receiver.state(),
+            readings: Readings::from(&self.receiver),
         }
     }
 }

@@ -2,23 +2,23 @@
 // standard error, and the events before it where they are asked for.
 #![tactic(auto)]
 
-ghost use Rattle.std.specs.Prelude.{◌≡◌, ℕ, ◌<◌, ◌≤◌, [], length, IfOk};
+ghost use Rattle.std.specs.Prelude.{◌≡◌, ℕ, ◌<◌, ◌≤◌, [], length};
 ghost use Rattle.ring.specs.Ring.{held};
 ghost use Rattle.receive.specs.Line.{Fed};
 
 use anyhow::anyhow;
-use arguments::{Arguments, Fault};
+use arguments::Arguments;
+use command_line::input::fill;
 use line::Line;
 use ports::user_cell::UserCell;
 use receiver::event::EventRecord;
 use receiver::feeding::MOST_OCTETS;
 use ring::ring::Ring;
-use std::io::{BufWriter, ErrorKind, Read, Write};
+use std::io::{BufWriter, ErrorKind, Write};
 use std::process::ExitCode;
 use std::{env, io};
 
 mod arguments;
-mod event_words;
 mod line;
 mod name;
 mod output;
@@ -29,13 +29,6 @@ mod summary;
 const CELL_PLACES: usize = 78;
 
 const EVENT_PLACES: usize = 1024;
-
-// what stands in a place that no event has come to yet
-const NO_EVENT: EventRecord = EventRecord {
-    bit: 0,
-    layer: 0,
-    cause: 0,
-};
 
 const USAGE: &str = "usage: receive [--payloads] [--events] < line > cells
   --payloads   only the 48 payload octets of each cell are written, without the 4 of its header
@@ -49,12 +42,12 @@ fn run(rt: &HostRuntime) -> anyhow::Result<ExitCode> {
     let words = words(rt)?;
     let arguments = match Arguments::parse(&words) {
         Ok(arguments) => arguments,
-        Err(fault) => return refuse(rt, &words, fault),
+        Err(fault) => return Ok(fault.refuse(rt, USAGE, &words)?),
     };
     let mut line = Line::new();
     let mut octets = [0u8; MOST_OCTETS];
     let mut cells = [UserCell::blank(); CELL_PLACES];
-    let mut events = [NO_EVENT; EVENT_PLACES];
+    let mut events = [EventRecord::default(); EVENT_PLACES];
     receive(
         rt,
         &mut line,
@@ -82,19 +75,6 @@ fn words(rt: &HostRuntime) -> anyhow::Result<Vec<String>> {
     }
 }
 
-// Says which word is refused, and why. It prints the word itself, since an error that `main` returns would hold only the first of a
-// long one.
-fn refuse(rt: &HostRuntime, words: &[String], fault: Fault) -> anyhow::Result<ExitCode> {
-    rt.eprintln(USAGE)?;
-    let why = fault.why;
-    let word = match words.get(fault.at) {
-        Some(word) => word.as_str(),
-        None => "",
-    };
-    eprintln!(rt; "Error: {why}: {word}")?;
-    Ok(ExitCode::FAILURE)
-}
-
 // Feeds standard input to the line until it ends, and writes out what each feed brings.
 fn receive(
     rt: &HostRuntime,
@@ -111,7 +91,7 @@ fn receive(
     let mut listing = BufWriter::new(rt.alloc(), rt.stderr())?;
     // Nothing says that an input ends, so a count bounds the loop.
     for _ in 0..u64::MAX {
-        let came = fill(rt, octets)?;
+        let came = fill(&mut rt.stdin(), octets)?;
         if came == 0 {
             break;
         }
@@ -140,22 +120,4 @@ fn feed(
     let Ok(_) = line.feed(octets, cells, events) else {
         unreachable!()
     };
-}
-
-// Reads until the places are full or the input ends, and answers how many octets came: a read may give fewer than it is asked for.
-fn fill(rt: &HostRuntime, octets: &mut [u8]) -> io::Result<usize>
-    ensures { IfOk result (λ came. came ≤ length octets.old) }
-{
-    let mut filled = 0;
-    for _ in 0..u64::MAX {
-        if filled == octets.len() {
-            break;
-        }
-        let more = rt.stdin().read(&mut octets[filled..])?;
-        if more == 0 {
-            break;
-        }
-        filled += more;
-    }
-    Ok(filled)
 }

@@ -1,32 +1,27 @@
 // The names of the arguments.
 ghost use Rattle.std.specs.Prelude.{◌≡◌};
-ghost use Rattle.std.specs.Str.{bytes_eq};
-ghost use Rattle.receive.specs.Name.{name_of};
+ghost use Rattle.receive.specs.Name.{named};
 
-#[derive(Clone, Copy, Drop)]
+use crate::arguments::Why;
+use std::str::FromStr;
+
+#[derive(Clone, Copy, Debug, PartialEq, Eq, Drop)]
 pub enum Name {
     Payloads,
     Events,
 }
 
-impl Name {
-    // The argument that a word names.
-    pub fn of(word: &str) -> Option<Name>
-        ensures { result ≡ name_of word.now }
-    {
-        if same(word, "--payloads") {
-            Some(Name::Payloads)
-        } else if same(word, "--events") {
-            Some(Name::Events)
-        } else {
-            None
+// The argument that a word names.
+impl FromStr for Name {
+    type Err = Why;
+
+    ghost from_str_gives = { λ word r. r ≡ named word };
+
+    fn from_str(word: &str) -> Result<Name, Why> {
+        match word {
+            "--payloads" => Ok(Name::Payloads),
+            "--events" => Ok(Name::Events),
+            _ => Err(Why::Unknown),
         }
     }
-}
-
-// Whether two texts are the same, octet by octet.
-fn same(a: &str, b: &str) -> bool
-    ensures { result ≡ bytes_eq a.now b.now }
-{
-    a == b
 }

@@ -1,11 +1,11 @@
 // What goes out after each feed: the cells and the events that it brought.
-ghost use Rattle.std.specs.Prelude.{◌≡◌};
+ghost use Rattle.std.specs.Prelude.{OnOk};
+ghost use Rattle.std.specs.Io.KnownBytes.{Appends};
 ghost use Rattle.ports.specs.Cell.{octets};
 ghost use Rattle.ports.specs.UserCell.{cell_of};
 ghost use Rattle.receive.specs.Output.{written, Emptied};
 
-use crate::event_words::EventWords;
-use cell::sizes::{CELL_OCTETS, HEADER_OCTETS};
+use cell::sizes::HEADER_OCTETS;
 use ports::user_cell::UserCell;
 use receiver::event::EventRecord;
 use ring::ring::Ring;
@@ -21,8 +21,7 @@ pub fn write_cells<W: Write>(
     ensures { Emptied cells.old result cells.new }
 {
     while let Ok(cell) = cells.pop() {
-        let octets = octets_of(cell);
-        out.write_all(part_written(&octets, payloads))?;
+        write_cell(cell, payloads, out)?;
     }
     Ok(())
 }
@@ -37,30 +36,20 @@ pub fn list_events<W: Write>(
 {
     while let Ok(event) = events.pop() {
         if listed {
-            out.writeln(EventWords(event))?;
+            out.writeln(event)?;
         }
     }
     out.flush()
 }
 
-// The octets of a cell: its header before its payload.
-fn octets_of(cell: UserCell) -> [u8; CELL_OCTETS]
-    ensures { result ≡ octets (cell_of cell) }
+// Writes a cell, whole or only its payload.
+fn write_cell<W: Write>(cell: UserCell, payloads: bool, out: &mut W) -> io::Result<()>
+    ensures { OnOk result (Appends (W.contents out.old) (W.contents out.new) (written payloads (octets (cell_of cell)))) }
 {
-    let mut place = [0; CELL_OCTETS];
-    let Ok(()) = cell.write(&mut place) else {
-        unreachable!()
-    };
-    place
-}
-
-// Those octets of a cell that are written.
-fn part_written(cell: &[u8; CELL_OCTETS], payloads: bool) -> &[u8]
-    ensures { result.now ≡ written payloads cell.now }
-{
+    let octets = cell.octets();
     if payloads {
-        &cell[HEADER_OCTETS..]
+        out.write_all(&octets[HEADER_OCTETS..])
     } else {
-        cell
+        out.write_all(&octets)
     }
 }

@@ -1,2 +1,1 @@
-pub mod EventWords
 pub mod Readings

@@ -1,5 +1,4 @@
-// What a receiving end tells, in words: its events, counters and state.
+// What a receiving end counted and how it stands, to be printed.
 #![tactic(auto)]
 
-pub mod event_words;
 pub mod readings;

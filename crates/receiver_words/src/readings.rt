@@ -1,25 +1,25 @@
 // All that can be read of a receiving end but the last F3 payload, in words.
-ghost use Rattle.std.specs.Prelude.{◌≡◌};
-ghost use Rattle.receiver_words.specs.Readings.{readings_of};
+ghost use Rattle.std.specs.Prelude.{◌≡◌, Some};
+ghost use Rattle.std.specs.Fmt.{WritesOnOk};
+ghost use Rattle.receiver_words.specs.Readings.{readings_of, above_text, counters_text, state_text, below_text, readings_text};
 
 use receiver::book::Counters;
 use receiver::receiver::Receiver;
 use std::fmt;
-use tracker::reading::{Boundary, State};
-use tracker::state::{Descrambler, Mode};
+use tracker::reading::State;
 
 // What a receiving end counted, and how it stands.
-#[derive(Clone, Copy, Drop)]
+#[derive(Clone, Copy, PartialEq, Eq, Drop)]
 pub struct Readings {
     pub bits: u64,
     pub counters: Counters,
     pub state: State,
 }
 
-impl Readings {
-    pub fn of(receiver: &Receiver) -> Readings
-        ensures { result ≡ readings_of receiver.now }
-    {
+impl From<&Receiver> for Readings {
+    ghost from_gives = { λ receiver readings. readings ≡ readings_of receiver.now };
+
+    fn from(receiver: &Receiver) -> Readings {
         Readings {
             bits: receiver.bits(),
             counters: receiver.counters(),
@@ -28,90 +28,63 @@ impl Readings {
     }
 }
 
-impl fmt::Display for Readings {
-    fn fmt<W: fmt::Write>(&self, f: &mut fmt::Formatter<W>) -> fmt::Result {
-        let Readings {
-            bits,
-            counters,
-            state,
-        } = *self;
+impl Readings {
+    // Writes the bits and the user cells.
+    fn write_above<W: fmt::Write>(&self, f: &mut fmt::Formatter<W>) -> fmt::Result
+        ensures { WritesOnOk W.write_str_gives f.old result (above_text self.now) f.new }
+    {
+        let bits = self.bits;
         let Counters {
             taken,
-            mended,
-            discarded,
             full,
             unserved,
-            f3,
-            lost,
-        } = counters;
-        let State {
-            boundary,
-            descrambler,
-            mode,
-        } = state;
-        let boundary = BoundaryWords(boundary);
-        let descrambler = DescramblerWords(descrambler);
-        let mode = ModeWords(mode);
-        writeln!(f, "bits: {bits}")?;
+            ..
+        } = self.counters;
         writeln!(
             f,
-            "user cells: taken {taken}, full {full}, not served {unserved}"
-        )?;
-        writeln!(f, "F3 cells: {f3}")?;
-        writeln!(f, "headers: mended {mended}, discarded {discarded}")?;
-        writeln!(f, "events: lost {lost}")?;
-        writeln!(f, "boundary: {boundary}")?;
-        writeln!(f, "descrambler: {descrambler}")?;
-        write!(f, "mode: {mode}")
+            "bits: {bits}\nuser cells: taken {taken}, full {full}, not served {unserved}"
+        )
+    }
+
+    // Writes the lines below the bits and the user cells.
+    pub fn write_below<W: fmt::Write>(&self, f: &mut fmt::Formatter<W>) -> fmt::Result
+        ensures { WritesOnOk W.write_str_gives f.old result (below_text self.now) f.new }
+    {
+        write_counters(self.counters, f)?;
+        write_state(self.state, f)
     }
 }
 
-#[derive(Drop)]
-struct BoundaryWords(Boundary);
-
-impl fmt::Display for BoundaryWords {
-    fn fmt<W: fmt::Write>(&self, f: &mut fmt::Formatter<W>) -> fmt::Result {
-        match self.0 {
-            Boundary::Hunt => f.write_str("HUNT"),
-            Boundary::Presync(agreeing) => write!(f, "PRESYNC, agreeing headers {agreeing}"),
-            Boundary::Sync(wrong) => write!(f, "SYNC, wrong headers in a row {wrong}"),
-        }
-    }
+// The counters but those of user cells.
+fn write_counters<W: fmt::Write>(counters: Counters, f: &mut fmt::Formatter<W>) -> fmt::Result
+    ensures { WritesOnOk W.write_str_gives f.old result (counters_text counters) f.new }
+{
+    let Counters {
+        mended,
+        discarded,
+        f3,
+        lost,
+        ..
+    } = counters;
+    writeln!(
+        f,
+        "F3 cells: {f3}\nheaders: mended {mended}, discarded {discarded}\nevents: lost {lost}"
+    )
 }
 
-#[derive(Drop)]
-struct DescramblerWords(Descrambler);
-
-impl fmt::Display for DescramblerWords {
-    fn fmt<W: fmt::Write>(&self, f: &mut fmt::Formatter<W>) -> fmt::Result {
-        match self.0 {
-            Descrambler::Acquisition(confidence) => {
-                write!(f, "acquisition, confidence {confidence}")
-            }
-            Descrambler::Verification(confidence, phase) => {
-                write!(
-                    f,
-                    "verification, confidence {confidence}, phase 0x{phase:08X}"
-                )
-            }
-            Descrambler::Steady(confidence, phase) => {
-                write!(
-                    f,
-                    "steady state, confidence {confidence}, phase 0x{phase:08X}"
-                )
-            }
-        }
-    }
+fn write_state<W: fmt::Write>(state: State, f: &mut fmt::Formatter<W>) -> fmt::Result
+    ensures { WritesOnOk W.write_str_gives f.old result (state_text state) f.new }
+{
+    writeln!(f, "boundary: {}", state.boundary)?;
+    writeln!(f, "descrambler: {}", state.descrambler)?;
+    write!(f, "mode: {}", state.mode)
 }
 
-#[derive(Drop)]
-struct ModeWords(Mode);
+impl fmt::Display for Readings {
+    ghost output = { λ readings. Some (readings_text readings) };
 
-impl fmt::Display for ModeWords {
     fn fmt<W: fmt::Write>(&self, f: &mut fmt::Formatter<W>) -> fmt::Result {
-        f.write_str(match self.0 {
-            Mode::Correction => "correction",
-            Mode::Detection => "detection",
-        })
+        self.write_above(f)?;
+        self.write_below(f)
     }
 }

@@ -1,14 +1,19 @@
 -- Words read two by two. The octets of a word x are f x.
-use Rattle.std.proofs.Common.{◌≡◌, ℕ, ◌+◌, ◌-◌, ◌<◌, ◌≤◌, List, [], ◌∷◌, map, length, get_or, take, drop, Ok, Err, Result, refl, ap, ◌∙◌, arith}
+use Rattle.std.proofs.Common.{◌≡◌, ℕ, ◌+◌, ◌-◌, ◌<◌, ◌≤◌, List, [], ◌∷◌, map, length, get_or, take, drop, Ok, Err, Result, refl, sym, ap, ◌∙◌, arith}
 use Rattle.std.proofs.lemmas.List.{take_rest}
+use Rattle.command_line.specs.declared.fault.Fault.{Fault}
 use Rattle.send.specs.Arguments.{taken, alone, read_from}
-use Rattle.send.specs.declared.arguments.Fault.{Fault}
 use Rattle.send.specs.declared.arguments.Given.{Given}
 use Rattle.send.specs.declared.arguments.Why.{Why}
 
 -- what follows from what an argument gave
-abbrev onwards : ℕ → List (List ℕ) → Result Given Why → Result Given Fault
+abbrev onwards : ℕ → List (List ℕ) → Result Given Why → Result Given (Fault Why)
 onwards at words r = elim r [ Ok g ↦ read_from g (at + 2) words | Err e ↦ Err (record { at = at; why = e }) ]
+
+-- what the first argument of some words gave, and whose fault it is where it gave nothing
+abbrev pub by_word : {X : Type 0} → ℕ → Result X Why → Result X (Fault Why)
+by_word at (Ok x) = Ok x
+by_word at (Err why) = Err (record { at = at; why = why })
 
 module _ {X : Type 0} (f : X → List ℕ) (g : Given) (at : ℕ) where
   pub read_none : (words : List X) → length words < 1 → Ok g ≡ read_from g at (map f words)
@@ -33,6 +38,7 @@ module _ {X : Type 0} (f : X → List ℕ) (g : Given) (at : ℕ) where
   read_on words x y name value g' some at_0 at_1 of-x of-y e =
       ap (λ ws. read_from g' (at + 2) (map f ws)) (take_rest words 2) ∙ ap (onwards at (map f (drop 2 words))) e ∙ read_two words x y name value some at_0 at_1 of-x of-y
 
-  pub read_fault : (words : List X) (x y : X) (name value : List ℕ) (e : Why) → 2 ≤ length words → x ≡ get_or words 0 x → y ≡ get_or words 1 y → name ≡ f x → value ≡ f y → Err e ≡ taken g name value → Err (record { at = at; why = e }) ≡ read_from g at (map f words)
-  read_fault words x y name value e some at_0 at_1 of-x of-y is =
-      ap (onwards at (map f (drop 2 words))) is ∙ read_two words x y name value some at_0 at_1 of-x of-y
+  pub read_fault : (words : List X) (x y : X) (name value : List ℕ) (r : Result Given Why) (e : Fault Why) → 2 ≤ length words → x ≡ get_or words 0 x → y ≡ get_or words 1 y → name ≡ f x → value ≡ f y → r ≡ taken g name value → by_word at r ≡ Err e → Err e ≡ read_from g at (map f words)
+  read_fault words x y name value (Ok g') e some at_0 at_1 of-x of-y is fault = absurd (cc)
+  read_fault words x y name value (Err why) e some at_0 at_1 of-x of-y is fault =
+      sym fault ∙ ap (onwards at (map f (drop 2 words))) is ∙ read_two words x y name value some at_0 at_1 of-x of-y

@@ -14,16 +14,17 @@
 --                         of the word that names it, and why
 --   parsed words          what the words ask for
 use Rattle.std.specs.Prelude.{ℕ, ◌+◌, ◌-◌, ◌*◌, ◌^◌, cond, List, [], ◌∷◌, Some, None, Ok, Err, Option, Result, nat_lt}
+use Rattle.std.specs.Option.{ok_or}
 use Rattle.cell.specs.Header.{reserved}
-use Rattle.send.specs.Name.{name_of}
-use Rattle.send.specs.Number.{number_of}
+use Rattle.command_line.specs.declared.fault.Fault.{Fault}
+use Rattle.send.specs.Name.{named}
 use Rattle.send.specs.declared.name.Name.{Name}
 use Rattle.send.specs.declared.name.Name.TheVariants.{Phase, Lead, Vpi, Vci, Header}
 use Rattle.send.specs.declared.arguments.Arguments.{Arguments}
-use Rattle.send.specs.declared.arguments.Fault.{Fault}
 use Rattle.send.specs.declared.arguments.Given.{Given}
 use Rattle.send.specs.declared.arguments.Why.{Why}
-use Rattle.send.specs.declared.arguments.Why.TheVariants.{Unknown, NoValue, NoNumber, OutOfRange, Reserved, Repeated, TwoHeaders}
+use Rattle.send.specs.declared.arguments.Why.TheVariants.{NoValue, NoNumber, OutOfRange, Reserved, Repeated, TwoHeaders}
+use Rattle.text.specs.Number.{number_of}
 
 abbrev pub nothing : Given
 nothing = record { phase = None; lead = None; vpi = None; vci = None; header = None }
@@ -75,13 +76,12 @@ gave g Header v = then (header_given g v) (with_header g)
 -- ---- the words
 
 abbrev pub taken : Given → List ℕ → List ℕ → Result Given Why
-taken g name value =
-    elim (name_of name) [ None ↦ Err Unknown | Some n ↦ elim (number_of value) [ None ↦ Err NoNumber | Some v ↦ gave g n v ] ]
+taken g name value = then (named name) (λ n. then (ok_or (number_of value) NoNumber) (gave g n))
 
 abbrev pub alone : List ℕ → Why
-alone name = elim (name_of name) [ None ↦ Unknown | Some n ↦ NoValue ]
+alone name = elim (named name) [ Ok n ↦ NoValue | Err why ↦ why ]
 
-unfoldable pub read_from : Given → ℕ → List (List ℕ) → Result Given Fault
+unfoldable pub read_from : Given → ℕ → List (List ℕ) → Result Given (Fault Why)
 read_from g at [] = Ok g
 read_from g at (name ∷ []) = Err (record { at = at; why = alone name })
 read_from g at (name ∷ value ∷ words) =
@@ -99,5 +99,5 @@ header_of g = elim g.header [ None ↦ or_else 0 g.vpi * 2 ^ 20 + or_else 100 g.
 abbrev pub arguments_of : Given → Arguments
 arguments_of g = record { phase = or_else 1 g.phase; lead = or_else 32 g.lead; header = record { 0 = header_of g } }
 
-abbrev pub parsed : List (List ℕ) → Result Arguments Fault
+abbrev pub parsed : List (List ℕ) → Result Arguments (Fault Why)
 parsed words = elim (read_from nothing 0 words) [ Ok g ↦ Ok (arguments_of g) | Err e ↦ Err e ]

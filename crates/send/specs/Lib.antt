@@ -1,4 +1,3 @@
 pub mod Tally
-pub mod Number
 pub mod Name
 pub mod Arguments

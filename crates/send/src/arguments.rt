@@ -1,16 +1,16 @@
 // The arguments: what they ask for, or why they are refused.
 ghost use Rattle.std.specs.Prelude.{◌≡◌, ◌+◌, ◌^◌, ◌<◌, map, length, string_bytes};
-ghost use Rattle.send.specs.Name.{name_of};
-ghost use Rattle.send.specs.Arguments.{nothing, in_range, once_more, field_given, header_given, gave, taken, alone, header_of, arguments_of, read_from, parsed};
+ghost use Rattle.send.specs.Arguments.{in_range, once_more, field_given, header_given, gave, taken, alone, header_of, arguments_of, read_from, parsed};
 
 use crate::name::Name;
-use crate::number;
 use cell::header::Header;
+use command_line::fault::Fault;
 use scrambler::generator::LAST_PHASE;
 use std::fmt;
+use text::number;
 
 // What the arguments ask for.
-#[derive(Clone, Copy, Drop)]
+#[derive(Clone, Copy, PartialEq, Eq, Drop)]
 pub struct Arguments {
     // the phase of the first cell
     pub phase: u32,
@@ -20,14 +20,8 @@ pub struct Arguments {
     pub header: Header,
 }
 
-// Why the arguments are refused, and which word names the one at fault, counted from 0.
-#[derive(Clone, Copy, Drop)]
-pub struct Fault {
-    pub at: usize,
-    pub why: Why,
-}
-
-#[derive(Clone, Copy, Drop)]
+// Why the arguments are refused: what is wrong with the one that a word names.
+#[derive(Clone, Copy, Debug, PartialEq, Eq, Drop)]
 pub enum Why {
     // no argument has this name
     Unknown,
@@ -47,18 +41,16 @@ pub enum Why {
 
 impl Arguments {
     // What the words ask for, two to an argument: its name and its value.
-    pub fn parse(words: &[String]) -> Result<Arguments, Fault>
+    pub fn parse(words: &[String]) -> Result<Arguments, Fault<Why>>
         ensures { result ≡ parsed (map string_bytes words.now) }
     {
-        match read(Given::nothing(), 0, words) {
-            Ok(given) => Ok(given.arguments()),
-            Err(fault) => Err(fault),
-        }
+        let given = read(Given::default(), 0, words)?;
+        Ok(given.arguments())
     }
 }
 
 // Reads the words from number `at` on, where those before them gave what is given.
-fn read(given: Given, at: usize, words: &[String]) -> Result<Given, Fault>
+fn read(given: Given, at: usize, words: &[String]) -> Result<Given, Fault<Why>>
     requires { at + length words.now < 2 ^ 64 }
     ensures { result ≡ read_from given at (map string_bytes words.now) }
 {
@@ -68,10 +60,12 @@ fn read(given: Given, at: usize, words: &[String]) -> Result<Given, Fault>
             at,
             why: lacking(name.as_str()),
         }),
-        [name, value, rest @ ..] => match given.take(name.as_str(), value.as_bytes()) {
-            Ok(given) => read(given, at + 2, rest),
-            Err(why) => Err(Fault { at, why }),
-        },
+        [name, value, rest @ ..] => {
+            let given = given
+                .take(name.as_str(), value.as_bytes())
+                .map_err(|why| Fault { at, why })?;
+            read(given, at + 2, rest)
+        }
     }
 }
 
@@ -79,21 +73,14 @@ fn read(given: Given, at: usize, words: &[String]) -> Result<Given, Fault>
 fn lacking(name: &str) -> Why
     ensures { result ≡ alone name.now }
 {
-    match named(name) {
-        Some(_) => Why::NoValue,
-        None => Why::Unknown,
+    match name.parse::<Name>() {
+        Ok(_) => Why::NoValue,
+        Err(why) => why,
     }
 }
 
-// The argument that a word names.
-fn named(word: &str) -> Option<Name>
-    ensures { result ≡ name_of word.now }
-{
-    Name::of(word)
-}
-
 // The arguments that stand in the words read so far.
-#[derive(Clone, Copy, Drop)]
+#[derive(Clone, Copy, Default, Drop)]
 struct Given {
     phase: Option<u32>,
     lead: Option<u32>,
@@ -103,27 +90,13 @@ struct Given {
 }
 
 impl Given {
-    fn nothing() -> Given
-        ensures { result ≡ nothing }
-    {
-        Given {
-            phase: None,
-            lead: None,
-            vpi: None,
-            vci: None,
-            header: None,
-        }
-    }
-
     // Takes an argument, by its name and its value.
     fn take(self, name: &str, value: &[u8]) -> Result<Given, Why>
         ensures { result ≡ taken self name.now value.now }
     {
-        match (named(name), number::read(value)) {
-            (None, _) => Err(Why::Unknown),
-            (Some(_), None) => Err(Why::NoNumber),
-            (Some(name), Some(value)) => self.give(name, value),
-        }
+        let name: Name = name.parse()?;
+        let value = number::read(value).ok_or(Why::NoNumber)?;
+        self.give(name, value)
     }
 
     // Gives an argument its value.
@@ -140,11 +113,11 @@ impl Given {
                 ..self
             }),
             Name::Vpi => Ok(Given {
-                vpi: self.field(self.vpi, ranged(value, 0, 255)? as u8)?,
+                vpi: self.field(self.vpi, u8::try_from(value).map_err(|_| Why::OutOfRange)?)?,
                 ..self
             }),
             Name::Vci => Ok(Given {
-                vci: self.field(self.vci, ranged(value, 0, 65_535)? as u16)?,
+                vci: self.field(self.vci, u16::try_from(value).map_err(|_| Why::OutOfRange)?)?,
                 ..self
             }),
             Name::Header => Ok(Given {
@@ -204,10 +177,11 @@ impl Given {
 fn ranged(value: u32, least: u32, most: u32) -> Result<u32, Why>
     ensures { result ≡ in_range value least most }
 {
-    if value < least || most < value {
-        return Err(Why::OutOfRange);
+    if (least..=most).contains(&value) {
+        Ok(value)
+    } else {
+        Err(Why::OutOfRange)
     }
-    Ok(value)
 }
 
 // The value of an argument that did not stand before.

@@ -7,16 +7,12 @@ use crate::tally::Tally;
 use cell::refusal::Refusal;
 use cell::sizes::LINE_OCTETS;
 use ports::source::Source;
-use scrambler::generator::next_phase;
 use sender::sender::Sender;
 
 #[derive(Clone, Copy)]
 pub struct Line {
     sender: Sender,
-    // the phase of the next cell
-    phase: u32,
     tally: Tally,
-    ghost together: { (state_of sender).phase ≡ phase },
 }
 
 impl Line {
@@ -28,8 +24,7 @@ impl Line {
         sender.start(phase)?;
         Ok(Line {
             sender,
-            phase,
-            tally: Tally::new(),
+            tally: Tally::default(),
         })
     }
 
@@ -40,9 +35,8 @@ impl Line {
     {
         let mut octets = [0u8; LINE_OCTETS];
         let Ok(kind) = self.sender.send(source, &mut octets) else {
-            unreachable()
+            unreachable!()
         };
-        self.phase = next_phase(self.phase);
         self.tally.count_cell(kind);
         octets
     }
@@ -59,7 +53,7 @@ impl Line {
     pub fn phase(&self) -> u32
         ensures { result ≡ (state_of self.now.sender).phase }
     {
-        self.phase
+        self.sender.phase()
     }
 
     // What was read and sent so far.

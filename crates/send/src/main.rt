@@ -2,22 +2,20 @@
 // cells without users, the cells of the block, and 8 cells more. A summary goes to standard error.
 #![tactic(auto)]
 
-ghost use Rattle.std.specs.Prelude.{◌≤◌, length, IfOk};
-
 use anyhow::anyhow;
-use arguments::{Arguments, Fault};
+use arguments::Arguments;
 use blocks::block_source::BlockSource;
 use cell::header::Header;
+use command_line::input::fill;
 use line::Line;
 use ports::source::CountedSource;
-use std::io::{BufWriter, Read, Write};
+use std::io::{BufWriter, Write};
 use std::process::ExitCode;
 use std::{env, io};
 
 mod arguments;
 mod line;
 mod name;
-mod number;
 mod tally;
 
 // So many octets are read at a time. They fill whole cells, so that only the last cell of the block is filled with zeros.
@@ -43,7 +41,7 @@ fn run(rt: &HostRuntime) -> anyhow::Result<ExitCode> {
     let words = words(rt)?;
     let arguments = match Arguments::parse(&words) {
         Ok(arguments) => arguments,
-        Err(fault) => return refuse(rt, &words, fault),
+        Err(fault) => return Ok(fault.refuse(rt, USAGE, &words)?),
     };
     let Ok(mut line) = Line::start(arguments.phase) else {
         return Err(anyhow!("the phase is out of range"));
@@ -58,21 +56,8 @@ fn run(rt: &HostRuntime) -> anyhow::Result<ExitCode> {
 
 // The arguments without the program's name.
 fn words(rt: &HostRuntime) -> io::Result<Vec<String>> {
-    let words: Vec<String> = env::args(rt)?.skip(1).collect(rt.alloc())?;
+    let words = env::args(rt)?.skip(1).collect(rt.alloc())?;
     Ok(words)
-}
-
-// Says which word is refused, and why. It prints the word itself, since an error that `main` returns would hold only the first of a
-// long one.
-fn refuse(rt: &HostRuntime, words: &[String], fault: Fault) -> anyhow::Result<ExitCode> {
-    rt.eprintln(USAGE)?;
-    let why = fault.why;
-    let word = match words.get(fault.at) {
-        Some(word) => word.as_str(),
-        None => "",
-    };
-    eprintln!(rt; "Error: {why}: {word}")?;
-    Ok(ExitCode::FAILURE)
 }
 
 // Sends the lead, the block from standard input, and the trail.
@@ -86,7 +71,7 @@ fn send(
     send_unused(line, arguments.lead, &mut out)?;
     // Nothing says that an input ends, so a count bounds the loop.
     for _ in 0..u64::MAX {
-        let octets = fill(rt, part)?;
+        let octets = fill(&mut rt.stdin(), part)?;
         line.count_octets(octets);
         send_part(line, arguments.header, &part[0..octets], &mut out)?;
         if octets < part.len() {
@@ -95,24 +80,6 @@ fn send(
     }
     send_unused(line, TRAIL_CELLS, &mut out)?;
     out.flush()
-}
-
-// Reads until the part is full or the input ends, and answers how many octets came: a read may give fewer than it is asked for.
-fn fill(rt: &HostRuntime, part: &mut [u8]) -> io::Result<usize>
-    ensures { IfOk result (λ octets. octets ≤ length part.old) }
-{
-    let mut filled = 0;
-    for _ in 0..u64::MAX {
-        if filled == part.len() {
-            break;
-        }
-        let octets = rt.stdin().read(&mut part[filled..])?;
-        if octets == 0 {
-            break;
-        }
-        filled += octets;
-    }
-    Ok(filled)
 }
 
 // Sends cells in which no user cell waits.
@@ -133,10 +100,7 @@ fn send_part<W: Write>(
     out: &mut W,
 ) -> io::Result<()> {
     let mut source = BlockSource::new(header, part);
-    for _ in 0..u64::MAX {
-        if source.count() == 0 {
-            break;
-        }
+    while source.count() > 0 {
         let octets = line.next_cell(&mut source);
         out.write_all(&octets)?;
     }

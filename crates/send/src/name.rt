@@ -1,7 +1,11 @@
 // The names of the arguments.
-ghost use Rattle.send.specs.Name.{Named};
+ghost use Rattle.std.specs.Prelude.{◌≡◌};
+ghost use Rattle.send.specs.Name.{named};
 
-#[derive(Clone, Copy, Drop)]
+use crate::arguments::Why;
+use std::str::FromStr;
+
+#[derive(Clone, Copy, Debug, PartialEq, Eq, Drop)]
 pub enum Name {
     Phase,
     Lead,
@@ -10,23 +14,20 @@ pub enum Name {
     Header,
 }
 
-impl Name {
-    // The argument that a word names.
-    pub fn of(word: &str) -> Option<Name>
-        ensures { Named word.now result }
-    {
-        if word == "--phase" {
-            Some(Name::Phase)
-        } else if word == "--lead" {
-            Some(Name::Lead)
-        } else if word == "--vpi" {
-            Some(Name::Vpi)
-        } else if word == "--vci" {
-            Some(Name::Vci)
-        } else if word == "--header" {
-            Some(Name::Header)
-        } else {
-            None
+// The argument that a word names.
+impl FromStr for Name {
+    type Err = Why;
+
+    ghost from_str_gives = { λ word r. r ≡ named word };
+
+    fn from_str(word: &str) -> Result<Name, Why> {
+        match word {
+            "--phase" => Ok(Name::Phase),
+            "--lead" => Ok(Name::Lead),
+            "--vpi" => Ok(Name::Vpi),
+            "--vci" => Ok(Name::Vci),
+            "--header" => Ok(Name::Header),
+            _ => Err(Why::Unknown),
         }
     }
 }

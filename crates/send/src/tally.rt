@@ -1,12 +1,12 @@
 // Counts of what was read and sent.
 ghost use Rattle.std.specs.Prelude.{◌≡◌};
-ghost use Rattle.send.specs.Tally.{none, counted_cell, counted_octets};
+ghost use Rattle.send.specs.Tally.{counted_cell, counted_octets};
 
 use cell::header::Kind;
 use std::fmt;
 
 // A counter stops at its top.
-#[derive(Clone, Copy, Drop)]
+#[derive(Clone, Copy, Debug, Default, PartialEq, Eq, Drop)]
 pub struct Tally {
     // octets of the block
     pub octets: u64,
@@ -17,18 +17,6 @@ pub struct Tally {
 }
 
 impl Tally {
-    // Nothing is counted yet.
-    pub fn new() -> Tally
-        ensures { result ≡ none }
-    {
-        Tally {
-            octets: 0,
-            idle: 0,
-            f3: 0,
-            user: 0,
-        }
-    }
-
     // Counts a cell of this kind.
     pub fn count_cell(&mut self, kind: Kind)
         ensures { self.new ≡ counted_cell kind self.old }

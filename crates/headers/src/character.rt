@@ -19,10 +19,10 @@ impl From<u8> for Character {
     fn from(octet: u8) -> Character {
         match octet {
             b' ' | b'\t' => Character::Blank,
-            b'0'..=b'9' => Character::Digit(octet - b'0'),
-            b'A'..=b'F' => Character::Digit(octet - b'A' + 10),
-            b'a'..=b'f' => Character::Digit(octet - b'a' + 10),
-            _ => Character::Other,
+            _ => match char::from(octet).to_digit(16) {
+                Some(digit) => Character::Digit(digit as u8),
+                None => Character::Other,
+            },
         }
     }
 }

@@ -1,9 +1,8 @@
 // The cases, one to a line: `cell PHASE OCTETS`, `find WORD` and `next PHASE`, each number of eight lower-case digits.
-ghost use Rattle.std.specs.Prelude.{◌≡◌, ℕ, List, ◌++◌, IfOk, MatchOption, ◌≢◌};
-ghost use Rattle.coding_vectors.specs.Hex.{word_of};
-ghost use Rattle.coding_vectors.specs.Cases.{case_of, CellCase, Reads};
+ghost use Rattle.std.specs.Prelude.{◌≡◌, ◌≢◌, ℕ, List, ◌++◌, IfOk, MatchOption};
+ghost use Rattle.coding_vectors.specs.Cases.{CellCase, Reads};
 
-use crate::hex;
+use hex_digits::digits;
 use std::alloc::{AllocError, Global};
 
 // What a line asks for.
@@ -15,30 +14,28 @@ pub enum Case {
     Find(u32),
     // move this phase on to the next cell
     Next(u32),
-    // the line spells no case
-    Malformed,
 }
 
 impl Case {
-    // The case that a line spells.
-    pub fn read(heap: Global, line: &[u8]) -> Result<Case, AllocError>
+    // The case that a line spells, if it spells one.
+    pub fn read(heap: Global, line: &[u8]) -> Result<Option<Case>, AllocError>
         ensures { IfOk result (λ c. Reads line.now c) }
     {
         if let Some(text) = after(line, b"cell ") {
-            let case = cell_case(heap, text)?;
-            return Ok(case);
+            return cell_case(heap, text);
         }
         if let Some(text) = after(line, b"find ") {
-            return Ok(find_case(text));
+            return Ok(digits::word(text).map(Case::Find));
         }
         if let Some(text) = after(line, b"next ") {
-            return Ok(next_case(text));
+            return Ok(digits::word(text).map(Case::Next));
         }
-        Ok(Case::Malformed)
+        Ok(None)
     }
 }
 
-// What follows the word with which a line begins; none where it begins otherwise.
+// What follows the word with which a line begins, if it begins with it. By a name of its own: with strip_prefix in its place the
+// check closes the first of three words alone.
 fn after<'a>(line: &'a [u8], word: &[u8]) -> Option<&'a [u8]>
     ensures { MatchOption result ((rest : List ℕ) → line.now ≢ word.now ++ rest) (λ rest. line.now ≡ word.now ++ rest.now) }
 {
@@ -46,38 +43,15 @@ fn after<'a>(line: &'a [u8], word: &[u8]) -> Option<&'a [u8]>
 }
 
 // A phase, a blank and octets.
-fn cell_case(heap: Global, text: &[u8]) -> Result<Case, AllocError>
+fn cell_case(heap: Global, text: &[u8]) -> Result<Option<Case>, AllocError>
     ensures { IfOk result (λ c. CellCase text.now c) }
 {
-    if text.len() < 9 || text[8] != b' ' {
-        return Ok(Case::Malformed);
-    }
-    let Some(phase) = hex::word(&text[0..8]) else {
-        return Ok(Case::Malformed);
+    let Some((phase, [b' ', octets @ ..])) = text.split_first_chunk::<8>() else {
+        return Ok(None);
     };
-    let (_, rest) = text.split_at(9);
-    let Some(octets) = hex::octets(heap, rest)? else {
-        return Ok(Case::Malformed);
+    let Some(phase) = digits::word(phase) else {
+        return Ok(None);
     };
-    Ok(Case::Cell(phase, octets))
-}
-
-// A sample word.
-fn find_case(text: &[u8]) -> Case
-    ensures { result ≡ case_of Case.Find (word_of text.now) }
-{
-    match hex::word(text) {
-        Some(word) => Case::Find(word),
-        None => Case::Malformed,
-    }
-}
-
-// A phase.
-fn next_case(text: &[u8]) -> Case
-    ensures { result ≡ case_of Case.Next (word_of text.now) }
-{
-    match hex::word(text) {
-        Some(phase) => Case::Next(phase),
-        None => Case::Malformed,
-    }
+    let octets = digits::octets(heap, octets)?;
+    Ok(octets.map(|octets| Case::Cell(phase, octets)))
 }

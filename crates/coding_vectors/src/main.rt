@@ -2,11 +2,9 @@
 #![tactic(auto)]
 
 mod cases;
-mod hex;
 mod outcomes;
 
 use cases::Case;
-use outcomes::Outcome;
 use std::io;
 use std::io::{BufRead, BufReader};
 
@@ -14,8 +12,14 @@ fn main(rt: HostRuntime) -> io::Result<()> {
     let heap = rt.alloc();
     for line in BufReader::new(heap, rt.stdin())?.split(heap, b'\n') {
         let line = line?;
-        let case = Case::read(heap, line.as_slice())?;
-        rt.println(Outcome::of(&case))?;
+        let Some(case) = Case::read(heap, line.as_slice())? else {
+            println!(rt; "malformed")?;
+            continue;
+        };
+        match outcomes::run(&case) {
+            Ok(outcome) => println!(rt; "{outcome}")?,
+            Err(refusal) => println!(rt; "refused {}", refusal.number())?,
+        }
     }
     Ok(())
 }

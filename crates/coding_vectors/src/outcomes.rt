@@ -2,9 +2,8 @@
 ghost use Rattle.std.specs.Prelude.{◌≡◌, length, drop, Decides, bit_xor};
 ghost use Rattle.cell.specs.Sorting.{header_of};
 ghost use Rattle.scrambler.specs.Coding.{header_mask, masked};
-ghost use Rattle.scrambler.specs.Finder.{found};
 ghost use Rattle.scrambler.specs.Generator.{next_phase};
-ghost use Rattle.coding_vectors.specs.Outcomes.{found_outcome, header_right, ComesBack, CellOutcome, Answers};
+ghost use Rattle.coding_vectors.specs.Outcomes.{header_right, ComesBack, CellOutcome, Answers};
 
 use crate::cases::Case;
 use cell::header::Header;
@@ -12,6 +11,7 @@ use cell::line_header::LineHeader;
 use cell::refusal::Refusal;
 use cell::sizes::{HEADER_OCTETS, LINE_HEADER_OCTETS, LINE_OCTETS, PAYLOAD_OCTETS};
 use cell::verdict::agrees;
+use hex_digits::digits::Hex;
 use scrambler::coding::code_cell;
 use scrambler::finder::find_phase;
 use scrambler::generator::next_phase;
@@ -19,7 +19,7 @@ use scrambler::payload::mask_payload;
 use scrambler::samples::{header_mask, predicted_samples};
 use std::fmt;
 
-// What came of a case.
+// What came of a case that was not refused.
 #[derive(Drop)]
 pub enum Outcome {
     // the cell on the line
@@ -36,48 +36,31 @@ pub enum Outcome {
     Phase(u32),
     // the phase of the next cell
     Next(u32),
-    Refused(Refusal),
-    Malformed,
 }
 
-impl Outcome {
-    // Runs a case on the library.
-    pub fn of(case: &Case) -> Outcome
-        ensures { Answers case.now result }
-    {
-        match case {
-            Case::Cell(phase, octets) => code(octets.as_slice(), *phase),
-            Case::Find(word) => find(*word),
-            Case::Next(phase) => Outcome::Next(next_phase(*phase)),
-            Case::Malformed => Outcome::Malformed,
-        }
+// Runs a case on the library.
+pub fn run(case: &Case) -> Result<Outcome, Refusal>
+    ensures { Answers case.now result }
+{
+    match case {
+        Case::Cell(phase, octets) => code(octets.as_slice(), *phase),
+        Case::Find(word) => find_phase(*word).map(Outcome::Phase),
+        Case::Next(phase) => Ok(Outcome::Next(next_phase(*phase))),
     }
 }
 
 // Codes a cell, and looks whether it comes back.
-fn code(cell: &[u8], phase: u32) -> Outcome
+fn code(cell: &[u8], phase: u32) -> Result<Outcome, Refusal>
     ensures { CellOutcome cell.now phase result }
 {
     let mut octets = [0u8; LINE_OCTETS];
-    match code_cell(cell, phase, &mut octets) {
-        Ok(()) => Outcome::Line {
-            octets,
-            next: next_phase(phase),
-            same: comes_back(cell, phase, &octets),
-            agrees: header_right(&octets, phase),
-        },
-        Err(refusal) => Outcome::Refused(refusal),
-    }
-}
-
-// Finds the phase of a sample word.
-fn find(word: u32) -> Outcome
-    ensures { result ≡ found_outcome (found word) }
-{
-    match find_phase(word) {
-        Ok(phase) => Outcome::Phase(phase),
-        Err(refusal) => Outcome::Refused(refusal),
-    }
+    code_cell(cell, phase, &mut octets)?;
+    Ok(Outcome::Line {
+        octets,
+        next: next_phase(phase),
+        same: comes_back(cell, phase, &octets),
+        agrees: header_right(&octets, phase),
+    })
 }
 
 // The header and the payload of a cell on the line, descrambled, are those of the cell.
@@ -85,24 +68,17 @@ fn comes_back(cell: &[u8], phase: u32, line: &[u8; LINE_OCTETS]) -> bool
     requires { length cell.now ≡ 52 }
     ensures { Decides result (ComesBack cell.now phase line.now) }
 {
-    let header = u32::from_be_bytes([cell[0], cell[1], cell[2], cell[3]]);
-    let (_, payload) = cell.split_at(HEADER_OCTETS);
-    descramble_header(line, phase) == header
-        && same_octets(&descramble_payload(line, phase), payload)
-}
-
-// Two rows of octets are the same.
-fn same_octets(one: &[u8], other: &[u8]) -> bool
-    ensures { Decides result (one.now ≡ other.now) }
-{
-    one == other
+    let (header, payload) = cell.split_first_chunk::<HEADER_OCTETS>().unwrap();
+    descramble_header(line, phase) == Header::from(*header)
+        && descramble_payload(line, phase).as_slice() == payload
 }
 
 // The header of a cell on the line, descrambled.
-fn descramble_header(line: &[u8; LINE_OCTETS], phase: u32) -> u32
-    ensures { result ≡ bit_xor (header_of line.now) (header_mask phase) }
+fn descramble_header(line: &[u8; LINE_OCTETS], phase: u32) -> Header
+    ensures { result.0 ≡ bit_xor (header_of line.now) (header_mask phase) }
 {
-    u32::from_be_bytes([line[0], line[1], line[2], line[3]]) ^ header_mask(phase)
+    let &[a, b, c, d, ..] = line;
+    Header(Header::from([a, b, c, d]).0 ^ header_mask(phase))
 }
 
 // The payload of a cell on the line, descrambled.
@@ -110,8 +86,7 @@ fn descramble_payload(line: &[u8; LINE_OCTETS], phase: u32) -> [u8; PAYLOAD_OCTE
     ensures { result ≡ masked 8 phase (drop 5 line.now) }
 {
     let mut payload = [0u8; PAYLOAD_OCTETS];
-    let (_, scrambled) = line.split_at(LINE_HEADER_OCTETS);
-    payload.copy_from_slice(scrambled);
+    payload.copy_from_slice(&line[LINE_HEADER_OCTETS..]);
     mask_payload(phase, &mut payload);
     payload
 }
@@ -120,12 +95,9 @@ fn descramble_payload(line: &[u8; LINE_OCTETS], phase: u32) -> [u8; PAYLOAD_OCTE
 fn header_right(line: &[u8; LINE_OCTETS], phase: u32) -> bool
     ensures { result ≡ header_right line.now phase }
 {
-    let header = Header(u32::from_be_bytes([line[0], line[1], line[2], line[3]]));
-    let syndrome = LineHeader {
-        header,
-        hec: line[4],
-    }
-    .syndrome();
+    let &[a, b, c, d, hec, ..] = line;
+    let header = Header::from([a, b, c, d]);
+    let syndrome = LineHeader { header, hec }.syndrome();
     agrees(syndrome) && syndrome == predicted_samples(phase)
 }
 
@@ -138,21 +110,13 @@ impl fmt::Display for Outcome {
                 same,
                 agrees,
             } => {
-                write!(f, "line ")?;
-                for octet in octets.iter() {
-                    write!(f, "{octet:02x}")?;
-                }
+                let octets = Hex(octets);
                 let same = if *same { "same" } else { "differs" };
                 let agrees = if *agrees { "agrees" } else { "disagrees" };
-                write!(f, " next {next:08x} {same} {agrees}")
+                write!(f, "line {octets} next {next:08x} {same} {agrees}")
             }
             Outcome::Phase(phase) => write!(f, "phase {phase:08x}"),
             Outcome::Next(phase) => write!(f, "next {phase:08x}"),
-            Outcome::Refused(refusal) => {
-                let number = refusal.number();
-                write!(f, "refused {number}")
-            }
-            Outcome::Malformed => write!(f, "malformed"),
         }
     }
 }

@@ -6,7 +6,9 @@
 --   octet_at text i       the octet that the letters 2i and 2i + 1 spell
 --   word_of text          the word that a text of eight letters spells
 --   SpellsOctets text xs  the text spells the octets xs, and nothing else
-use Rattle.std.specs.Prelude.{◌≡◌, ℕ, ◌+◌, ◌-◌, ◌*◌, ◌^◌, ◌<◌, cond, List, length, Some, None, Option, ◌==◌, nat_lt, slice_index}
+--   letter_of d           the digit of the value d, below 16
+--   spelled xs            the text that octets are written as
+use Rattle.std.specs.Prelude.{◌≡◌, ℕ, ◌+◌, ◌-◌, ◌*◌, ◌^◌, ◌<◌, cond, List, length, Some, None, Option, ◌==◌, nat_lt, slice_index, ◌/◌, ◌%◌, [], ◌∷◌, flat_map}
 
 abbrev pub digit_of : ℕ → Option ℕ
 digit_of c =
@@ -33,3 +35,9 @@ word_of text =
 pub record SpellsOctets (text : List ℕ) (xs : List ℕ) : Type 0 where
   pub len : length text ≡ 2 * length xs
   pub each : (i : ℕ) → i < length xs → octet_at text i ≡ Some (slice_index xs i)
+
+abbrev pub letter_of : ℕ → ℕ
+letter_of d = cond (nat_lt d 10) (48 + d) (87 + d)
+
+abbrev pub spelled : List ℕ → List ℕ
+spelled xs = flat_map (λ x. letter_of (x / 16) ∷ letter_of (x % 16) ∷ []) xs

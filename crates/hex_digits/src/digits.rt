@@ -1,8 +1,9 @@
 // Lower-case hexadecimal digits: two to an octet, eight to a word. The kit's crate hex would take capitals too.
-ghost use Rattle.std.specs.Prelude.{◌≡◌, ℕ, List, IfOk, MatchOption};
-ghost use Rattle.hex_digits.specs.Digits.{digit_of, octet_of, word_of, SpellsOctets};
+ghost use Rattle.std.specs.Prelude.{◌≡◌, ℕ, List, Some, IfOk, MatchOption};
+ghost use Rattle.hex_digits.specs.Digits.{digit_of, octet_of, word_of, SpellsOctets, spelled};
 
 use std::alloc::{AllocError, Global};
+use std::fmt;
 
 // The word that eight digits spell; none where the text is anything else.
 pub fn word(text: &[u8]) -> Option<u32>
@@ -47,5 +48,20 @@ fn digit(letter: u8) -> Option<u8>
         b'0'..=b'9' => Some(letter - b'0'),
         b'a'..=b'f' => Some(letter - b'a' + 10),
         _ => None,
+    }
+}
+
+// Octets to be written, two digits to each.
+#[derive(Clone, Copy)]
+pub struct Hex<'a>(pub &'a [u8]);
+
+impl fmt::Display for Hex<'_> {
+    ghost output = { λ hex. Some (spelled hex.0.now) };
+
+    fn fmt<W: fmt::Write>(&self, f: &mut fmt::Formatter<W>) -> fmt::Result {
+        for &octet in self.0 {
+            write!(f, "{octet:02x}")?;
+        }
+        Ok(())
     }
 }

@@ -1,2 +1,3 @@
-pub mod Words
+pub mod Number
 pub mod Calls
+pub mod End

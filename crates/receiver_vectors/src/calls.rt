@@ -1,83 +1,63 @@
 // The calls, one to a line: `end EVENTS SINK`, `feed OCTETS` and `reset`.
-ghost use Rattle.std.specs.Prelude.{◌≡◌, IfOk, Decides};
+ghost use Rattle.std.specs.Prelude.{IfOk};
 ghost use Rattle.receiver_vectors.specs.Calls.{RingText, SplitText, SinkText, EndText, FeedText, Reads};
 
-use crate::words;
+use crate::number::number;
 use hex_digits::digits;
 use std::alloc::{AllocError, Global};
+use text::words;
 
 // What an end hands its cells to.
-#[derive(Clone, Copy, Drop)]
+#[derive(Clone, Copy)]
 pub enum SinkKind {
     // a ring of so many places
     Ring(u32),
     // a sink that serves nothing
     Closed,
-    // connections below the first number go to a ring of so many places, all others to a sink that serves nothing
-    Split(u32, u32),
+    // connections below the boundary go to a ring of so many places, all others to a sink that serves nothing
+    Split { boundary: u32, places: u32 },
 }
 
 // What a line asks for.
 #[derive(Drop)]
 pub enum Call {
     // make an end with so many places for events, and this sink
-    End(u32, SinkKind),
+    End { event_places: u32, sink: SinkKind },
     // feed these octets to it
     Feed(Vec<u8>),
     // reset it
     Reset,
-    // the line spells no call
-    Malformed,
 }
 
 impl Call {
-    // The call that a line spells.
-    pub fn read(heap: Global, line: &[u8]) -> Result<Call, AllocError>
+    // The call that a line spells, if it spells one.
+    pub fn read(heap: Global, line: &[u8]) -> Result<Option<Call>, AllocError>
         ensures { IfOk result (λ c. Reads line.now c) }
     {
-        let word = words::first(line);
-        if same(word, b"end") {
-            return Ok(end_call(words::others(line)));
+        match words::first(line) {
+            b"end" => Ok(end_call(words::others(line))),
+            b"feed" => feed_call(heap, words::others(line)),
+            _ if line == b"reset".as_slice() => Ok(Some(Call::Reset)),
+            _ => Ok(None),
         }
-        if same(word, b"feed") {
-            let call = feed_call(heap, words::others(line))?;
-            return Ok(call);
-        }
-        if same(line, b"reset") {
-            return Ok(Call::Reset);
-        }
-        Ok(Call::Malformed)
     }
-}
-
-// Two texts are the same.
-fn same(one: &[u8], other: &[u8]) -> bool
-    ensures { Decides result (one.now ≡ other.now) }
-{
-    one == other
 }
 
 // How many events, and the sink.
-fn end_call(text: &[u8]) -> Call
+fn end_call(text: &[u8]) -> Option<Call>
     ensures { EndText text.now result }
 {
-    let Some(events) = words::number(words::first(text)) else {
-        return Call::Malformed;
-    };
-    match sink_kind(words::others(text)) {
-        Some(kind) => Call::End(events, kind),
-        None => Call::Malformed,
-    }
+    Some(Call::End {
+        event_places: number(words::first(text))?,
+        sink: sink_kind(words::others(text))?,
+    })
 }
 
 // Octets.
-fn feed_call(heap: Global, text: &[u8]) -> Result<Call, AllocError>
+fn feed_call(heap: Global, text: &[u8]) -> Result<Option<Call>, AllocError>
     ensures { IfOk result (λ c. FeedText text.now c) }
 {
-    match digits::octets(heap, text)? {
-        Some(octets) => Ok(Call::Feed(octets)),
-        None => Ok(Call::Malformed),
-    }
+    Ok(digits::octets(heap, text)?.map(Call::Feed))
 }
 
 // A word for the kind, and its numbers.
@@ -85,37 +65,29 @@ fn sink_kind(text: &[u8]) -> Option<SinkKind>
     ensures { SinkText text.now result }
 {
     let word = words::first(text);
-    if same(word, b"ring") {
-        return ring_kind(words::others(text));
+    if word == b"ring".as_slice() {
+        ring_kind(words::others(text))
+    } else if word == b"split".as_slice() {
+        split_kind(words::others(text))
+    } else if text == b"closed".as_slice() {
+        Some(SinkKind::Closed)
+    } else {
+        None
     }
-    if same(word, b"split") {
-        return split_kind(words::others(text));
-    }
-    if same(text, b"closed") {
-        return Some(SinkKind::Closed);
-    }
-    None
 }
 
 // How many places.
 fn ring_kind(text: &[u8]) -> Option<SinkKind>
     ensures { RingText text.now result }
 {
-    match words::number(text) {
-        Some(places) => Some(SinkKind::Ring(places)),
-        None => None,
-    }
+    number(text).map(SinkKind::Ring)
 }
 
 // A boundary, and how many places.
 fn split_kind(text: &[u8]) -> Option<SinkKind>
     ensures { SplitText text.now result }
 {
-    let Some(boundary) = words::number(words::first(text)) else {
-        return None;
-    };
-    match words::number(words::others(text)) {
-        Some(places) => Some(SinkKind::Split(boundary, places)),
-        None => None,
-    }
+    let boundary = number(words::first(text))?;
+    let places = number(words::others(text))?;
+    Some(SinkKind::Split { boundary, places })
 }

@@ -1,101 +1,25 @@
 // How what came of a call is written.
-use crate::end::Answer;
-use cell::sizes::CELL_OCTETS;
-use receiver::event::EventRecord;
-use receiver::receiver::Receiver;
+use crate::end::{Answer, End};
+use hex_digits::digits::Hex;
 use std::fmt;
-use tracker::reading::Boundary;
-use tracker::state::{Descrambler, Mode};
-
-// The octets of a cell.
-#[derive(Drop)]
-pub struct CellLine {
-    pub octets: [u8; CELL_OCTETS],
-}
-
-#[derive(Drop)]
-pub struct EventLine {
-    pub event: EventRecord,
-}
-
-// All readings of an end.
-#[derive(Drop)]
-pub struct StateLine<'a> {
-    pub receiver: &'a Receiver,
-}
+use tracker::reading::{Boundary, State};
+use tracker::state::Descrambler;
 
 impl fmt::Display for Answer {
     fn fmt<W: fmt::Write>(&self, f: &mut fmt::Formatter<W>) -> fmt::Result {
         match self {
             Answer::Made => write!(f, "end"),
             Answer::Taken(cells) => write!(f, "feed taken {cells}"),
-            Answer::Refused(refusal) => {
-                let number = refusal.number();
-                write!(f, "feed refused {number}")
-            }
             Answer::Reset => write!(f, "reset"),
-            Answer::Malformed => write!(f, "malformed"),
         }
     }
 }
 
-fn write_octets<W: fmt::Write>(f: &mut fmt::Formatter<W>, octets: &[u8]) -> fmt::Result {
-    for octet in octets.iter() {
-        write!(f, "{octet:02x}")?;
-    }
-    Ok(())
-}
-
-impl fmt::Display for CellLine {
+// All readings of an end.
+impl fmt::Display for End {
     fn fmt<W: fmt::Write>(&self, f: &mut fmt::Formatter<W>) -> fmt::Result {
-        write!(f, "cell ")?;
-        write_octets(f, &self.octets)
-    }
-}
-
-impl fmt::Display for EventLine {
-    fn fmt<W: fmt::Write>(&self, f: &mut fmt::Formatter<W>) -> fmt::Result {
-        let bit = self.event.bit;
-        let layer = self.event.layer;
-        let cause = self.event.cause;
-        write!(f, "event {bit} {layer} {cause}")
-    }
-}
-
-fn boundary_words(boundary: Boundary) -> (&'static str, u8) {
-    match boundary {
-        Boundary::Hunt => ("HUNT", 0),
-        Boundary::Presync(agreeing) => ("PRESYNC", agreeing),
-        Boundary::Sync(wrong) => ("SYNC", wrong),
-    }
-}
-
-fn descrambler_words(descrambler: Descrambler) -> (&'static str, u8) {
-    match descrambler {
-        Descrambler::Acquisition(confidence) => ("Acquisition", confidence),
-        Descrambler::Verification(confidence, _) => ("Verification", confidence),
-        Descrambler::Steady(confidence, _) => ("Steady", confidence),
-    }
-}
-
-fn mode_word(mode: Mode) -> &'static str {
-    match mode {
-        Mode::Correction => "correction",
-        Mode::Detection => "detection",
-    }
-}
-
-impl fmt::Display for StateLine<'_> {
-    fn fmt<W: fmt::Write>(&self, f: &mut fmt::Formatter<W>) -> fmt::Result {
-        let state = self.receiver.state();
-        let (boundary, headers) = boundary_words(state.boundary);
-        let (descrambler, confidence) = descrambler_words(state.descrambler);
-        let mode = mode_word(state.mode);
-        let bits = self.receiver.bits();
-        write!(
-            f,
-            "state {boundary} {headers} {descrambler} {confidence} {mode} bits {bits}"
-        )?;
+        write_state(f, self.receiver.state())?;
+        write!(f, " bits {}", self.receiver.bits())?;
         let counters = self.receiver.counters();
         write!(
             f,
@@ -107,7 +31,21 @@ impl fmt::Display for StateLine<'_> {
             " full {} unserved {} f3 {} lost {}",
             counters.full, counters.unserved, counters.f3, counters.lost
         )?;
-        write!(f, " payload ")?;
-        write_octets(f, self.receiver.f3_payload())
+        write!(f, " payload {}", Hex(self.receiver.f3_payload()))
     }
+}
+
+// A word for each part of the state, with its count where it has one.
+fn write_state<W: fmt::Write>(f: &mut fmt::Formatter<W>, state: State) -> fmt::Result {
+    match state.boundary {
+        Boundary::Hunt => write!(f, "state HUNT 0")?,
+        Boundary::Presync(agreeing) => write!(f, "state PRESYNC {agreeing}")?,
+        Boundary::Sync(wrong) => write!(f, "state SYNC {wrong}")?,
+    }
+    match state.descrambler {
+        Descrambler::Acquisition(confidence) => write!(f, " Acquisition {confidence}")?,
+        Descrambler::Verification(confidence, _) => write!(f, " Verification {confidence}")?,
+        Descrambler::Steady(confidence, _) => write!(f, " Steady {confidence}")?,
+    }
+    write!(f, " {}", state.mode)
 }

@@ -1,23 +1,22 @@
 // A receiving end with its sink and its ring of events, and what comes of a call.
+ghost use Rattle.std.specs.Prelude.{◌≡◌};
+ghost use Rattle.receiver.specs.Feed.{events_of, Untouched};
+ghost use Rattle.receiver_vectors.specs.End.{made_end, places_of, Carries};
+
 use crate::calls::{Call, SinkKind};
 use cell::refusal::Refusal;
-use ports::closed::Closed;
 use ports::sink::Sink;
-use ports::split::Split;
-use ports::user_cell::UserCell;
 use receiver::event::EventRecord;
 use receiver::receiver::Receiver;
 use ring::ring::Ring;
 
-// What a call answered.
+// What a call that was not refused answered.
 #[derive(Clone, Copy)]
 pub enum Answer {
     Made,
     // the sink took so many cells
     Taken(u32),
-    Refused(Refusal),
     Reset,
-    Malformed,
 }
 
 // A receiving end and what it is used with.
@@ -30,7 +29,9 @@ pub struct End {
 }
 
 impl End {
-    pub fn new(event_places: u32, sink: SinkKind) -> End {
+    pub fn new(event_places: u32, sink: SinkKind) -> End
+        ensures { result ≡ made_end event_places sink }
+    {
         End {
             receiver: Receiver::new(),
             event_places,
@@ -39,70 +40,38 @@ impl End {
     }
 
     // How many places the ring of its sink has.
-    pub fn cell_places(&self) -> u32 {
+    pub fn cell_places(&self) -> u32
+        ensures { result ≡ places_of self.now.sink }
+    {
         match self.sink {
-            SinkKind::Ring(places) => places,
+            SinkKind::Ring(places) | SinkKind::Split { places, .. } => places,
             SinkKind::Closed => 0,
-            SinkKind::Split(_, places) => places,
         }
     }
 
-    // Carries a call out. The cells that its sink takes go into this ring.
-    pub fn call(
+    // Carries a call out; a feed hands its cells to this sink.
+    pub fn call<S: Sink>(
         &mut self,
         call: &Call,
-        cells: &mut Ring<'_, UserCell>,
+        sink: &mut S,
         events: &mut Ring<'_, EventRecord>,
-    ) -> Answer {
+    ) -> Result<Answer, Refusal>
+        ensures answer { Carries call.now self.old (S.Sink.state sink.old) (events_of events.old) result self.new (S.Sink.state sink.new) (events_of events.new) }
+        ensures untouched { Untouched result sink.old sink.new events.old events.new }
+    {
         match call {
-            Call::End(event_places, sink) => {
+            Call::End { event_places, sink } => {
                 *self = End::new(*event_places, *sink);
-                Answer::Made
+                Ok(Answer::Made)
             }
-            Call::Feed(octets) => match self.feed(octets.as_slice(), cells, events) {
-                Ok(taken) => Answer::Taken(taken),
-                Err(refusal) => Answer::Refused(refusal),
-            },
+            Call::Feed(octets) => self
+                .receiver
+                .feed(octets.as_slice(), sink, events)
+                .map(Answer::Taken),
             Call::Reset => {
                 self.receiver.reset();
-                Answer::Reset
+                Ok(Answer::Reset)
             }
-            Call::Malformed => Answer::Malformed,
         }
     }
-
-    fn feed(
-        &mut self,
-        octets: &[u8],
-        cells: &mut Ring<'_, UserCell>,
-        events: &mut Ring<'_, EventRecord>,
-    ) -> Result<u32, Refusal> {
-        match self.sink {
-            SinkKind::Ring(_) => self.receiver.feed(octets, cells, events),
-            SinkKind::Closed => self.receiver.feed(octets, &mut Closed, events),
-            SinkKind::Split(boundary, _) => feed_split(
-                &mut self.receiver,
-                octets,
-                boundary,
-                cells,
-                events,
-            ),
-        }
-    }
-}
-
-// Feeds octets whose cells go to this sink where their connection is below the boundary, and to one that serves nothing where it is not.
-fn feed_split<S: Sink>(
-    receiver: &mut Receiver,
-    octets: &[u8],
-    boundary: u32,
-    below: &mut S,
-    events: &mut Ring<'_, EventRecord>,
-) -> Result<u32, Refusal> {
-    let mut sink = Split {
-        left: below,
-        right: Closed,
-        boundary,
-    };
-    receiver.feed(octets, &mut sink, events)
 }

@@ -3,10 +3,10 @@
 #![tactic(auto)]
 
 use calls::{Call, SinkKind};
-use cell::sizes::CELL_OCTETS;
-use display::{CellLine, EventLine, StateLine};
 use end::End;
-use ports::source::Source;
+use hex_digits::digits::Hex;
+use ports::closed::Closed;
+use ports::split::Split;
 use ports::user_cell::UserCell;
 use receiver::event::EventRecord;
 use ring::ring::Ring;
@@ -16,7 +16,7 @@ use std::io::{BufRead, BufReader};
 mod calls;
 mod display;
 mod end;
-mod words;
+mod number;
 
 // No feed ends more cells than this: 4,096 octets have 77 cells and a part.
 const MOST_CELLS: usize = 78;
@@ -29,49 +29,54 @@ fn main(rt: HostRuntime) -> io::Result<()> {
     let mut end = End::new(0, SinkKind::Closed);
     for line in BufReader::new(heap, rt.stdin())?.split(heap, b'\n') {
         let line = line?;
-        let call = Call::read(heap, line.as_slice())?;
-        carry_out(&rt, &mut end, &call)?;
+        match Call::read(heap, line.as_slice())? {
+            Some(call) => carry_out(&rt, &mut end, &call)?,
+            None => println!(rt; "malformed")?,
+        }
+        println!(rt; "{end}")?;
     }
     Ok(())
 }
 
 // Carries a call out with rings that are empty, and empties them.
-fn carry_out(rt: &HostRuntime, end: &mut End, call: &Call) -> io::Result<()> {
+fn carry_out(rt: &impl Print, end: &mut End, call: &Call) -> io::Result<()> {
     let mut cell_places = [UserCell::blank(); MOST_CELLS];
-    let mut event_places = [EventRecord {
-        bit: 0,
-        layer: 0,
-        cause: 0,
-    }; MOST_EVENTS];
+    let mut event_places = [EventRecord::default(); MOST_EVENTS];
     let cells = (end.cell_places() as usize).min(MOST_CELLS);
     let events = (end.event_places as usize).min(MOST_EVENTS);
-    let mut cells = Ring::new(&mut cell_places[0..cells]);
-    let mut events = Ring::new(&mut event_places[0..events]);
-    rt.println(end.call(call, &mut cells, &mut events))?;
+    let mut cells = Ring::new(&mut cell_places[..cells]);
+    let mut events = Ring::new(&mut event_places[..events]);
+    // the sinks are of three types
+    let answer = match end.sink {
+        SinkKind::Ring(_) => end.call(call, &mut cells, &mut events),
+        SinkKind::Closed => end.call(call, &mut Closed, &mut events),
+        SinkKind::Split { boundary, .. } => {
+            let mut sink = Split {
+                left: &mut cells,
+                right: Closed,
+                boundary,
+            };
+            end.call(call, &mut sink, &mut events)
+        }
+    };
+    match answer {
+        Ok(answer) => println!(rt; "{answer}")?,
+        Err(refusal) => println!(rt; "feed refused {}", refusal.number())?,
+    }
     write_cells(rt, &mut cells)?;
-    write_events(rt, &mut events)?;
-    rt.println(StateLine {
-        receiver: &end.receiver,
-    })
+    write_events(rt, &mut events)
 }
 
-fn write_cells(rt: &HostRuntime, cells: &mut Ring<'_, UserCell>) -> io::Result<()> {
-    for _ in 0..MOST_CELLS {
-        let mut octets = [0u8; CELL_OCTETS];
-        if cells.take(&mut octets).is_err() {
-            break;
-        }
-        rt.println(CellLine { octets })?;
+fn write_cells(rt: &impl Print, cells: &mut Ring<'_, UserCell>) -> io::Result<()> {
+    while let Ok(cell) = cells.pop() {
+        println!(rt; "cell {}", Hex(&cell.octets()))?;
     }
     Ok(())
 }
 
-fn write_events(rt: &HostRuntime, events: &mut Ring<'_, EventRecord>) -> io::Result<()> {
-    for _ in 0..MOST_EVENTS {
-        let Ok(event) = events.pop() else {
-            break;
-        };
-        rt.println(EventLine { event })?;
+fn write_events(rt: &impl Print, events: &mut Ring<'_, EventRecord>) -> io::Result<()> {
+    while let Ok(EventRecord { bit, layer, cause }) = events.pop() {
+        println!(rt; "event {bit} {layer} {cause}")?;
     }
     Ok(())
 }

@@ -1,5 +1,6 @@
 // Making a block source, and taking its cells.
-ghost use Rattle.std.specs.Prelude.{◌≡◌, drop};
+ghost use Rattle.std.specs.Prelude.{◌≡◌, min, drop, if◌then◌else◌};
+ghost use Rattle.cell.specs.Header.{reserved};
 ghost use Rattle.blocks.specs.Block.{payload_at};
 ghost use Rattle.blocks.specs.BlockSource.{block_cells, block_users, source_of};
 
@@ -17,11 +18,7 @@ impl<'a> BlockSource<'a> {
     pub fn new(header: Header, block: &'a [u8]) -> BlockSource<'a>
         ensures { block_cells result ≡ source_of header.0 block.now }
     {
-        let used = if header.is_reserved() {
-            0
-        } else {
-            block.len().min(MOST_OCTETS)
-        };
+        let used = octets_used(header, block.len());
         BlockSource {
             rest: &block[..used],
             header,
@@ -55,7 +52,7 @@ impl Source for BlockSource<'_> {
     }
 
     fn take(&mut self, place: &mut [u8]) -> Result<(), Refusal> {
-        self.look(place)?;
+        Self::look(self, place)?;
         self.pass();
         Ok(())
     }
@@ -65,6 +62,17 @@ impl CountedSource for BlockSource<'_> {
     #[tactic(auto, using(crate::proofs::Cuts::cells_counted))]
     fn count(&self) -> u32 {
         self.rest.len().div_ceil(PAYLOAD_OCTETS) as u32
+    }
+}
+
+// How many octets of a block are used under a header.
+fn octets_used(header: Header, lent: usize) -> usize
+    ensures { result ≡ (if reserved header.0 then 0 else min lent 65536) }
+{
+    if header.is_reserved() {
+        0
+    } else {
+        lent.min(MOST_OCTETS)
     }
 }
 

@@ -14,7 +14,7 @@ pub enum SinkCause {
 }
 
 // What happened, by its layer and its cause there.
-#[derive(Clone, Copy, PartialEq, Eq)]
+#[derive(Clone, Copy, Debug, PartialEq, Eq, Hash)]
 pub enum Event {
     Header(HeaderCause),
     Boundary(BoundaryCause),

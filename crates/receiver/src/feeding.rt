@@ -56,13 +56,12 @@ impl Receiver {
         ensures handed { Handed (user_cell (cell_in moment self.old.tracker.payload)) (S.Sink.state sink.old) result (S.Sink.state sink.new) }
         ensures noted { log_of self.new.book events.new ≡ brought moment self.old.tracker.payload result (log_of self.old.book events.old) }
     {
-        match moment {
-            None => None,
-            Some(Moment::Header(told)) => {
+        match moment? {
+            Moment::Header(told) => {
                 self.book.note_header(events, told);
                 None
             }
-            Some(Moment::Cell(header)) => self.deliver(header, sink, events),
+            Moment::Cell(header) => self.deliver(header, sink, events),
         }
     }
 

@@ -1,6 +1,6 @@
 // The line as it goes out: the sending end, its phase, and what was sent so far.
 ghost use Rattle.std.specs.Prelude.{◌≡◌, ◌^◌, ◌<◌, MatchResult};
-ghost use Rattle.sender.specs.Sender.{state_of, fresh, started, kind_sent, Sends, StartWhy};
+ghost use Rattle.sender.specs.Sender.{fresh, started, kind_sent, Sends, StartWhy};
 ghost use Rattle.send.specs.Tally.{none, counted_cell, counted_octets};
 
 use crate::tally::Tally;
@@ -18,7 +18,7 @@ pub struct Line {
 impl Line {
     // A line whose first cell has this phase. Refuses a phase of 0 or above 2^31 - 1.
     pub fn start(phase: u32) -> Result<Line, Refusal>
-        ensures { MatchResult result (λ l. (0 < phase) × (phase < 2 ^ 31) × (state_of l.sender ≡ started fresh phase) × (l.tally ≡ none)) (λ e. StartWhy phase e) }
+        ensures { MatchResult result (λ l. (0 < phase) × (phase < 2 ^ 31) × (l.sender ≡ started fresh phase) × (l.tally ≡ none)) (λ e. StartWhy phase e) }
     {
         let mut sender = Sender::new();
         sender.start(phase)?;
@@ -30,13 +30,10 @@ impl Line {
 
     // Sends the next cell, and counts it: its octets on the line.
     pub fn next_cell<S: Source>(&mut self, source: &mut S) -> [u8; LINE_OCTETS]
-        ensures sent { Sends (state_of self.old.sender) (S.Source.waiting source.old) (kind_sent (state_of self.old.sender) (S.Source.waiting source.old)) result (state_of self.new.sender) (S.Source.waiting source.new) }
-        ensures tally { self.new.tally ≡ counted_cell (kind_sent (state_of self.old.sender) (S.Source.waiting source.old)) self.old.tally }
+        ensures sent { Sends self.old.sender (S.Source.waiting source.old) (kind_sent self.old.sender (S.Source.waiting source.old)) result self.new.sender (S.Source.waiting source.new) }
+        ensures tally { self.new.tally ≡ counted_cell (kind_sent self.old.sender (S.Source.waiting source.old)) self.old.tally }
     {
-        let mut octets = [0u8; LINE_OCTETS];
-        let Ok(kind) = self.sender.send(source, &mut octets) else {
-            unreachable!()
-        };
+        let (kind, octets) = self.sender.send_next(source);
         self.tally.count_cell(kind);
         octets
     }
@@ -44,14 +41,14 @@ impl Line {
     // Counts octets that were read.
     pub fn count_octets(&mut self, octets: usize)
         ensures tally { self.new.tally ≡ counted_octets octets self.old.tally }
-        ensures same { state_of self.new.sender ≡ state_of self.old.sender }
+        ensures same { self.new.sender ≡ self.old.sender }
     {
         self.tally.count_octets(octets);
     }
 
     // The phase of the next cell.
     pub fn phase(&self) -> u32
-        ensures { result ≡ (state_of self.now.sender).phase }
+        ensures { result ≡ self.now.sender.phase }
     {
         self.sender.phase()
     }

@@ -14,7 +14,7 @@ pub const MOST_PAYLOADS: usize = 1365;
 pub struct BlockSink<'a> {
     block: &'a mut [u8],
     header: Header,
-    // how many payload places are filled
+    // how many payload places are filled: the block is lent, and what the sink holds is read from these places of it
     filled: usize,
     ghost small: { length block.now ≤ 65520 },
     ghost within: { 48 * filled ≤ length block.now },

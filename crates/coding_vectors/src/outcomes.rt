@@ -73,7 +73,7 @@ fn comes_back(cell: &[u8], phase: u32, line: &[u8; LINE_OCTETS]) -> bool
         && descramble_payload(line, phase).as_slice() == payload
 }
 
-// The header of a cell on the line, descrambled.
+// The header of a cell on the line, descrambled. The octets and their phase go apart, as the library's calls take them.
 fn descramble_header(line: &[u8; LINE_OCTETS], phase: u32) -> Header
     ensures { result.0 ≡ bit_xor (header_of line.now) (header_mask phase) }
 {

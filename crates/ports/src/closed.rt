@@ -7,7 +7,7 @@ use cell::header::Header;
 use cell::refusal::Refusal;
 
 // A sink that serves nothing.
-#[derive(Clone, Copy, Drop)]
+#[derive(Clone, Copy, Debug, Default, PartialEq, Eq, Hash)]
 pub struct Closed;
 
 impl Sink for Closed {

@@ -34,6 +34,7 @@ fn step<S: Source, K: Sink>(from: &mut S, to: &mut K) -> Result<bool, Refusal>
         return Ok(false);
     }
     to.put(header_in(&place), &place[HEADER_OCTETS..])?;
+    // not refused: the cell was just looked at, in a place as long
     let _ = from.take(&mut place);
     Ok(true)
 }

@@ -13,6 +13,7 @@ pub struct Pair<P, Q> {
     pub second: Q,
 }
 
+// Each call matches by itself: one goes behind a shared loan, the other behind one that may write.
 impl<P: Source, Q: Source> Source for Pair<P, Q> {
     ghost waiting = { λ p. P.Source.waiting p.first ++ Q.Source.waiting p.second };
 

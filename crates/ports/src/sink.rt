@@ -13,6 +13,7 @@ pub trait Sink {
     ghost bounded: { (s : Self) (k : ℕ) → (state s).space k < 2 ^ 31 };
 
     // Takes a user cell up. Refuses a payload not of 48 octets, a reserved header, one that is not served, and a connection without space.
+    // Header and payload come apart, since what is no user cell is refused here.
     fn put(&mut self, header: Header, payload: &[u8]) -> Result<(), Refusal>
         ensures { PutAnswer (state self.old) header.0 payload.now result (state self.new) };
 }

@@ -19,6 +19,8 @@ use tracker::tracker::Moment;
 pub const MOST_OCTETS: usize = 4096;
 
 // The sink and the ring stay two parameters: each of the calls below would have to say of a struct of loans that it still holds the same.
+// The sink and the ring of events are lent apart in each call: the prover doesn't cover a struct of both loans that is made of a field of
+// the end and of two parameters.
 impl Receiver {
     // Sorts a kept cell: idle cells vanish, the payload of an F3 cell is stored, a user cell is handed up.
     fn deliver<S: Sink>(
@@ -94,6 +96,7 @@ impl Receiver {
         ensures works { Works self.old (S.Sink.state sink.old) (events_of events.old) (octet_bits octet) result self.new (S.Sink.state sink.new) (events_of events.new) }
     {
         let mut taken = 0;
+        // over the numbers of the bits: an octet is no list of them
         for k in 0..8u8 {
             taken += self.take_bit(bit_at(octet, k), sink, events);
         }

@@ -18,7 +18,8 @@ pub fn find_phase(word: u32) -> Result<u32, Refusal>
     Ok(phase_by(&ROWS, word))
 }
 
-// The phase by rows that undo the sampling: the sum of the bits of the word that each row picks, the first row's on top.
+// The phase by rows that undo the sampling: the sum of the bits of the word that each row picks, the first row's on top. The rows are handed
+// over so that a wrong one is refused where the table is used.
 fn phase_by(rows: &[u32; 31], word: u32) -> u32
     requires undo { rows.now ≡ phase_rows }
     requires small { word < 2 ^ 31 }

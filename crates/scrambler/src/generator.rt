@@ -5,7 +5,7 @@ ghost use Rattle.scrambler.specs.Sequence.{SequenceLaws};
 
 use cell::refusal::Refusal;
 
-// The largest phase: a phase has 31 bits.
+// The largest phase: a phase has 31 bits. It is no type of its own, since the calls that take one take any word.
 pub const LAST_PHASE: u32 = 0x7fff_ffff;
 
 // Refuses what no cell is coded at: a phase of 0 or above 2^31 - 1.

@@ -54,7 +54,7 @@ fn run(rt: &HostRuntime) -> anyhow::Result<ExitCode> {
     Ok(ExitCode::SUCCESS)
 }
 
-// The arguments without the program's name.
+// The arguments without the program's name. Not shared with receive, which says something else of an argument that is no text.
 fn words(rt: &HostRuntime) -> io::Result<Vec<String>> {
     let words = env::args(rt)?.skip(1).collect(rt.alloc())?;
     Ok(words)

@@ -57,7 +57,7 @@ pub(crate) const LAST_OCTET: u8 = 47;
 
 pub(crate) const LAST_HEADER_BIT: u8 = 39;
 
-// Where the next bit falls.
+// Where the next bit falls. HUNT is a state that has a name, so it is no None.
 #[derive(Clone, Copy, Debug, PartialEq, Eq, Hash)]
 pub enum Place {
     // the boundary is hunted for

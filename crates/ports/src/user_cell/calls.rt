@@ -19,7 +19,7 @@ impl UserCell {
         Ok(UserCell { header, payload })
     }
 
-    // A cell of zeros, for places that no cell has come to yet.
+    // A cell of zeros, for places that no cell has come to yet. It is no default, since its name says what the zeros stand for.
     pub fn blank() -> UserCell
         ensures { cell_of result ≡ record { header = 0; payload = replicate 48 0 } }
     {

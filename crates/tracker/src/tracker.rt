@@ -99,6 +99,7 @@ impl Tracker {
 
     // Tries the last 40 bits as a header; one that agrees ends the hunt.
     fn hunt(&mut self) -> Option<Moment>
+        requires { self.old.control.place ≡ Place.Hunt }
         ensures next { self.new ≡ moved Place.Hunt self.old }
         ensures brings { result ≡ brings_at Place.Hunt self.old }
     {
@@ -115,7 +116,6 @@ impl Tracker {
                 descrambler: None,
             }))
         } else {
-            self.control.place = Place::Hunt;
             None
         }
     }

@@ -9,13 +9,15 @@ use cell::sizes::LINE_HEADER_BITS;
 use cell::verdict;
 use scrambler::samples::{header_mask, predicted_samples};
 
+const HEADER_BITS: u32 = LINE_HEADER_BITS as u32;
+
 // The last bits of the line.
 #[derive(Clone, Copy, Debug, Default, PartialEq, Eq, Hash)]
 pub(crate) struct Window {
     // the last 40, the newest below; before they have come, zeros stand for those that are missing
     bits: u64,
-    // how many have come, up to 40
-    come: u8,
+    // how many have come, up to 40; as wide as it is read, which an octet among others is not
+    come: u32,
 }
 
 impl Window {
@@ -24,10 +26,10 @@ impl Window {
         ensures { self.new ≡ pushed self.old bit }
     {
         self.bits = self.bits % 0x80_0000_0000 * 2 + u64::from(bit);
-        self.come = if self.come < LINE_HEADER_BITS {
+        self.come = if self.come < HEADER_BITS {
             self.come + 1
         } else {
-            LINE_HEADER_BITS
+            HEADER_BITS
         };
     }
 
@@ -35,7 +37,7 @@ impl Window {
     pub(crate) fn is_whole(self) -> bool
         ensures { result ≡ (self.come == 40) }
     {
-        self.come == LINE_HEADER_BITS
+        self.come == HEADER_BITS
     }
 
     // The last eight bits.

@@ -1,16 +1,9 @@
--- The octets of a cell: written into a place, and read from it again.
-use Rattle.std.proofs.Common.{◌≡◌, ℕ, ◌+◌, ◌*◌, ◌/◌, ◌%◌, ◌^◌, ◌<◌, List, [], ◌++◌, length, take, drop, sym, ap, ◌∙◌, mod-eq_of_lt, arith, length-drop}
-use borrow.Rule.Slice.PartMut.{put_mid, post_of}
+-- The octets of a cell, read again.
+use Rattle.std.proofs.Common.{◌≡◌, ℕ, ◌+◌, ◌*◌, ◌/◌, ◌%◌, ◌^◌, ◌<◌, length, take, drop, sym, ap, ◌∙◌, mod-eq_of_lt, arith}
 use Rattle.std.proofs.lemmas.Nat.{shr-shr, shr_split, shr_below}
-use Rattle.std.proofs.lemmas.List.{append-nil, drop_all, take_all}
+use Rattle.std.proofs.lemmas.List.{take_all}
 use Rattle.cell.specs.Sorting.{header_of}
-use Rattle.ports.specs.Cell.{Cell, octets, header_octets}
-
--- the header written to the first four octets of a place, and the payload to the rest
-pub written : (h : ℕ) (place front payload back : List ℕ) → front ≡ header_octets h → back ≡ payload → length place ≡ 52 → put_mid 4 48 (front ++ post_of 0 4 place) back ≡ header_octets h ++ payload
-written h place front payload back e f n =
-    let d : drop 48 (drop 4 place) ≡ [] = drop_all 48 (drop 4 place) (simp length-drop (omega arith)) in
-    rw (e, f, d, append-nil)
+use Rattle.ports.specs.Cell.{Cell, octets}
 
 -- the header is read back from its octets
 pub header_read : (c : Cell) → c.header < 2 ^ 32 → header_of (octets c) ≡ c.header

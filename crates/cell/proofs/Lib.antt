@@ -5,3 +5,4 @@ pub mod Division
 pub mod SingleErrors
 pub mod Verdicts
 pub mod WrongBits
+pub mod Payloads

@@ -16,7 +16,7 @@ pub struct LineHeader {
 }
 
 impl LineHeader {
-    // The header of the low 40 bits of a word, the first sent on top.
+    // The header of the low 40 bits of a word, the first sent on top. No From, since the bits above them are let go.
     pub fn from_bits(word: u64) -> LineHeader
         ensures { result ≡ of_bits word }
     {
@@ -26,7 +26,7 @@ impl LineHeader {
         }
     }
 
-    // The 40 bits as a word, the first sent on top.
+    // The 40 bits as a word, the first sent on top; `from_bits` undoes it.
     pub fn to_bits(self) -> u64
         ensures { result ≡ bits40 self }
     {

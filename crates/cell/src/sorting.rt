@@ -27,7 +27,7 @@ pub fn sort_cell(octets: &[u8]) -> Result<SortedCell<'_>, Refusal>
     Ok(sort(Header::from([*a, *b, *c, *d]), payload))
 }
 
-// Sorts a cell whose header and payload are already told apart.
+// Sorts a cell whose header and payload are already told apart. The payload may be any slice: an array would ask more of callers.
 pub fn sort(header: Header, payload: &[u8]) -> SortedCell<'_>
     ensures { SortsPartsAs header.0 payload.entry result }
 {

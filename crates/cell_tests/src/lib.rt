@@ -84,15 +84,24 @@ mod tests {
         octets
     }
 
+    // Sorting a cell of that payload tells an F3 cell that carries it.
+    fn is_f3(header: u32) -> bool {
+        let payload = payload();
+        sort_cell(&cell(header)) == Ok(SortedCell::F3(&payload))
+    }
+
+    // Sorting a cell of that payload tells a user cell of this header that carries it.
+    fn is_user(header: u32) -> bool {
+        let payload = payload();
+        sort_cell(&cell(header)) == Ok(SortedCell::User(Header(header), &payload))
+    }
+
     #[test]
     fn sorts_by_the_header(rt: HostRuntime) {
-        let payload = payload();
         assert!(rt; sort_cell(&cell(0x0000_0001)) == Ok(SortedCell::Idle));
-        assert!(rt; sort_cell(&cell(0x0000_0009)) == Ok(SortedCell::F3(&payload)));
-        assert!(rt; sort_cell(&cell(0x0000_0640)) == Ok(SortedCell::User(Header(0x640), &payload)));
-        assert!(rt;
-            sort_cell(&cell(0x1000_0001)) == Ok(SortedCell::User(Header(0x1000_0001), &payload))
-        );
+        assert!(rt; is_f3(0x0000_0009));
+        assert!(rt; is_user(0x0000_0640));
+        assert!(rt; is_user(0x1000_0001));
     }
 
     #[test]

@@ -34,8 +34,8 @@ impl Case {
     }
 }
 
-// What follows the word with which a line begins, if it begins with it. By a name of its own: with strip_prefix in its place the
-// check closes the first of three words alone.
+// What follows the word with which a line begins, if it begins with it. With strip_prefix called in place the proof closes for the first
+// of the three words only.
 fn after<'a>(line: &'a [u8], word: &[u8]) -> Option<&'a [u8]>
     ensures { MatchOption result ((rest : List ℕ) → line.now ≢ word.now ++ rest) (λ rest. line.now ≡ word.now ++ rest.now) }
 {

@@ -56,7 +56,7 @@ pub fn read(line: &[u8]) -> Result<Option<LineHeader>, Fault>
 struct Reading {
     // whole octets so far
     octets: usize,
-    // the last five of them, the first on top
+    // the last five of them, the first on top: the count is that of the whole line, so it is no length of this
     word: u64,
     // the first digit of an octet that lacks its second
     half: Option<u8>,

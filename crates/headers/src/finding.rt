@@ -26,7 +26,7 @@ impl From<LineHeader> for Finding {
     }
 }
 
-// What is found under a verdict. Apart from `from`, since within it a wrong finding shows in its proof alone, and not in a clause.
+// What is found under a verdict. By itself: in `from` its clause would be proved by a file that names the mended header, and not by search.
 fn under(received: LineHeader, verdict: Verdict) -> Finding
     ensures { result ≡ finding_of received verdict }
 {

@@ -1,5 +1,5 @@
 -- What one step of draining moves, and what a row of puts leaves in a sink.
-use Rattle.std.proofs.Common.{◌≡◌, ℕ, Bool, true, false, cond, eqb, List, [], ◌∷◌, ◌++◌, length, take, drop, Ok, Err, Result, sym, refl, ap, ◌∙◌, subst, append_assoc, arith, eqb-true}
+use Rattle.std.proofs.Common.{◌≡◌, ℕ, Bool, true, false, cond, eqb, List, [], ◌∷◌, ◌++◌, length, drop, Ok, Err, Result, sym, refl, ap, ◌∙◌, subst, append_assoc, arith, eqb-true}
 use borrow.Author.Tests.{eqb-false}
 use Rattle.std.specs.List.{AllByRecursion}
 use Rattle.std.specs.Prelude.{is_err}
@@ -12,7 +12,7 @@ use Rattle.ports.specs.Cell.{Cell, User, of_connection}
 use Rattle.ports.specs.Drain.{Moves, Stepped, Puts}
 use Rattle.ports.specs.Sink.{SinkState, Put}
 use Rattle.ports.specs.Source.{Taken, Looks, Takes}
-use Rattle.ports.proofs.Octets.{header_read, payload_read}
+use Rattle.ports.proofs.Octets.{header_read}
 
 -- one more cell put after the others
 pub puts_push : (cs : List Cell) (s t u : SinkState) (c : Cell) → Puts s cs t → Put t c.header c.payload u → Puts s (cs ++ c ∷ []) u
@@ -42,7 +42,7 @@ moved_on cells rest s s' false e h = absurd (let z : false ≡ true = e in cc)
 
 -- a cell that was looked at, put and then taken
 module _ (cells rest rest' : List Cell) (place place' payload : List ℕ) (header : ℕ) (before after : SinkState)
-    (users : AllByRecursion User cells) (n : length place ≡ 52) (t : Taken cells place rest) (e : header ≡ header_of place) (f : payload ≡ take 48 (drop 4 place)) where
+    (users : AllByRecursion User cells) (n : length place ≡ 52) (t : Taken cells place rest) (e : header ≡ header_of place) (f : payload ≡ drop 4 place) where
   user : User t.cell
   user = (subst (λ (x : List Cell). AllByRecursion User x) t.first users).0
 
@@ -50,7 +50,7 @@ module _ (cells rest rest' : List Cell) (place place' payload : List ℕ) (heade
   the_header = e ∙ ap header_of t.written ∙ header_read t.cell user.fits
 
   the_payload : payload ≡ t.cell.payload
-  the_payload = f ∙ ap (λ x. take 48 (drop 4 x)) t.written ∙ payload_read t.cell user.whole
+  the_payload = f ∙ ap (drop 4) t.written
 
   pub moves : {X : Type 0} (r : Result X Refusal) → Put before header payload after → Takes cells place r place' rest' → Moves cells before rest' after
   moves (Ok x) p k =

@@ -1,7 +1,6 @@
--- The octets of a cell, read again.
-use Rattle.std.proofs.Common.{◌≡◌, ℕ, ◌+◌, ◌*◌, ◌/◌, ◌%◌, ◌^◌, ◌<◌, length, take, drop, sym, ap, ◌∙◌, mod-eq_of_lt, arith}
+-- The header of a cell's octets, read again.
+use Rattle.std.proofs.Common.{◌≡◌, ℕ, ◌+◌, ◌*◌, ◌/◌, ◌%◌, ◌^◌, ◌<◌, sym, ap, ◌∙◌, mod-eq_of_lt, arith}
 use Rattle.std.proofs.lemmas.Nat.{shr-shr, shr_split, shr_below}
-use Rattle.std.proofs.lemmas.List.{take_all}
 use Rattle.cell.specs.Sorting.{header_of}
 use Rattle.ports.specs.Cell.{Cell, octets}
 
@@ -17,6 +16,3 @@ header_read c h =
   where
     linear : (n a b d w x y z : ℕ) → a * 256 + w ≡ n → b * 256 + x ≡ a → d * 256 + y ≡ b → z ≡ d → z * 16777216 + y * 65536 + x * 256 + w ≡ n
     linear n a b d w x y z f0 f1 f2 f3 = omega arith
-
-pub payload_read : (c : Cell) → length c.payload ≡ 48 → take 48 (drop 4 (octets c)) ≡ c.payload
-payload_read c h = take_all 48 c.payload (omega arith)

@@ -1,11 +1,11 @@
 -- The record of a user cell: making one, and writing it out.
 --
---   cell_of u                 the cell that the record holds
---   MakeWhy header payload e  why there is no user cell of this header and payload
---   Makes header payload r    what making one answers
+--   cell_of u                       the cell that the record holds
+--   MakeWhy header payload e        why there is no user cell of this header and payload
+--   Makes header payload r          what making one answers
 --   IsUserPayload header payload p  p is the payload, of 48 octets, and the header is not reserved
---   WriteWhy place e          why a cell is not written into a place
---   Writes u place r place'   what writing one answers, and the place after it
+--   WriteWhy place e                why a cell is not written into a place
+--   Writes u place r place'         what writing one answers, and the place after it
 use Rattle.std.specs.Prelude.{◌≡◌, ℕ, true, false, List, length, Result, MatchResult, ◌≢◌}
 use Rattle.cell.specs.Header.{reserved}
 use Rattle.cell.specs.Refusal.{number_of}

@@ -1,14 +1,13 @@
 // Draining a counted source into a sink.
 ghost use Rattle.std.specs.Prelude.{◌≡◌};
-ghost use Rattle.cell.specs.Header.{header_of};
 ghost use Rattle.ports.specs.Drain.{Stepped, Drains};
 
 use crate::drained::Drained;
 use crate::sink::Sink;
 use crate::source::{CountedSource, Source};
-use cell::header::Header;
+use cell::octets::cell_parts;
 use cell::refusal::Refusal;
-use cell::sizes::{CELL_OCTETS, HEADER_OCTETS};
+use cell::sizes::CELL_OCTETS;
 
 // Moves every cell of the source into the sink. A put that is refused ends it, and its cell stays in the source.
 pub fn drain<S: CountedSource, K: Sink>(from: &mut S, to: &mut K) -> Drained
@@ -33,16 +32,9 @@ fn step<S: Source, K: Sink>(from: &mut S, to: &mut K) -> Result<bool, Refusal>
     if from.look(&mut place).is_err() {
         return Ok(false);
     }
-    to.put(header_in(&place), &place[HEADER_OCTETS..])?;
+    let (header, payload) = cell_parts(&place);
+    to.put(header, &payload)?;
     // not refused: the cell was just looked at, in a place as long
     let _ = from.take(&mut place);
     Ok(true)
-}
-
-// The header that the first four octets write.
-fn header_in(octets: &[u8; CELL_OCTETS]) -> Header
-    ensures { result.0 ≡ header_of octets.now }
-{
-    let [a, b, c, d, ..] = *octets;
-    Header::from([a, b, c, d])
 }

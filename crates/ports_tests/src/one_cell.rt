@@ -7,7 +7,7 @@ use ports::source::{CountedSource, Source};
 use ports::user_cell::UserCell;
 
 // The cell that waits, if one does.
-#[derive(Clone, Copy, Drop)]
+#[derive(Clone, Copy)]
 pub struct OneCell {
     pub slot: Option<UserCell>,
 }

@@ -7,7 +7,7 @@ use command_line::fault::Fault;
 use std::fmt;
 
 // What the arguments ask for.
-#[derive(Clone, Copy, Debug, Default, PartialEq, Eq, Drop)]
+#[derive(Clone, Copy, Debug, Default, PartialEq, Eq)]
 pub struct Arguments {
     // only the payloads of cells are written
     pub payloads: bool,
@@ -16,7 +16,7 @@ pub struct Arguments {
 }
 
 // Why the arguments are refused: what is wrong with the one that a word names.
-#[derive(Clone, Copy, Debug, PartialEq, Eq, Drop)]
+#[derive(Clone, Copy, Debug, PartialEq, Eq)]
 pub enum Why {
     // no argument has this name
     Unknown,

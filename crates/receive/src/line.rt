@@ -12,7 +12,7 @@ use receiver_words::readings::Readings;
 use ring::ring::Ring;
 
 // What came in. A counter stops at its top.
-#[derive(Clone, Copy, Debug, Default, PartialEq, Eq, Drop)]
+#[derive(Clone, Copy, Debug, Default, PartialEq, Eq)]
 pub struct Tally {
     // octets of the line
     pub octets: u64,

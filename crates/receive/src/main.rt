@@ -60,7 +60,7 @@ fn run(rt: &HostRuntime) -> anyhow::Result<ExitCode> {
     Ok(ExitCode::SUCCESS)
 }
 
-// The arguments without the program's name.
+// The arguments without the program's name. Not shared with send, which says something else of an argument that is no text.
 fn words(rt: &HostRuntime) -> anyhow::Result<Vec<String>> {
     match env::args(rt) {
         Ok(args) => {

@@ -5,7 +5,7 @@ ghost use Rattle.receive.specs.Name.{named};
 use crate::arguments::Why;
 use std::str::FromStr;
 
-#[derive(Clone, Copy, Debug, PartialEq, Eq, Drop)]
+#[derive(Clone, Copy, Debug, PartialEq, Eq)]
 pub enum Name {
     Payloads,
     Events,

@@ -5,7 +5,7 @@ use receiver_words::readings::Readings;
 use std::fmt;
 
 // What came in, and how the receiving end stands.
-#[derive(Clone, Copy, PartialEq, Eq, Drop)]
+#[derive(Clone, Copy, PartialEq, Eq)]
 pub struct Summary {
     pub tally: Tally,
     pub readings: Readings,

@@ -5,6 +5,7 @@
 --   Undoes x r       r is the one event that has the numbers of the record x, or an error where no event has them
 --   event_words e    the event e in words
 --   event_of n       the event that has the numbers n, if one has
+--   all_events       every event; has_numbers n e  whether the event e has the numbers n
 --   record_words x   the record x in words: the number of the bit, and the event, or the numbers where no event has them
 use Rattle.std.specs.Prelude.{◌≡◌, ℕ, ◌&&◌, Bool, List, [], ◌∷◌, ◌++◌, find, Some, None, Option, Ok, Result, codes, decimal, ◌==◌}
 use Rattle.tracker.specs.declared.events.HeaderCause.TheVariants.{Mended, Discarded}

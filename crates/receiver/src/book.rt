@@ -46,6 +46,7 @@ fn bump(count: &mut u32)
     *count = count.saturating_add(1);
 }
 
+// The ring is lent to each call apart from the book, as the end lends it.
 impl Book {
     // All zero.
     pub(crate) fn new() -> Book

@@ -35,7 +35,7 @@ pub struct EventRecord {
 pub struct UnknownEvent;
 
 impl Event {
-    // The numbers of the layer and of the cause.
+    // The numbers of the layer and of the cause, since a ring of events holds plain numbers. `TryFrom` undoes it.
     pub fn numbers(self) -> (u8, u8)
         ensures { result ≡ event_numbers self }
     {

@@ -18,9 +18,8 @@ use tracker::tracker::Moment;
 // A feed takes no more octets than this.
 pub const MOST_OCTETS: usize = 4096;
 
-// The sink and the ring stay two parameters: each of the calls below would have to say of a struct of loans that it still holds the same.
-// The sink and the ring of events are lent apart in each call: the prover doesn't cover a struct of both loans that is made of a field of
-// the end and of two parameters.
+// The sink and the ring stay two parameters: the prover doesn't cover a struct of loans made of a field and of two parameters, and each call
+// would have to say that it still holds the same.
 impl Receiver {
     // Sorts a kept cell: idle cells vanish, the payload of an F3 cell is stored, a user cell is handed up.
     fn deliver<S: Sink>(

@@ -9,7 +9,7 @@ use std::fmt;
 use tracker::reading::State;
 
 // What a receiving end counted, and how it stands.
-#[derive(Clone, Copy, PartialEq, Eq, Drop)]
+#[derive(Clone, Copy, PartialEq, Eq)]
 pub struct Readings {
     pub bits: u64,
     pub counters: Counters,

@@ -1,7 +1,6 @@
 -- A coded header carries its samples, and a coded cell is decoded to the cell again.
 use Rattle.std.proofs.Common.{◌≡◌, ℕ, ◌+◌, ◌*◌, ◌/◌, ◌%◌, ◌^◌, ◌<◌, List, [], ◌∷◌, ◌++◌, length, get_or, drop, replicate, set, sym, refl, ap, ◌∙◌, ap₂, append-nil, mod-lt, arith, pow_pos, eq-eqb}
-use Rattle.std.proofs.lemmas.List.{length-drop, take_all}
-use borrow.Rule.Slice.PartMut.{put_mid, mid_of}
+use borrow.Rule.Slice.PartMut.{put_mid}
 use lib.Arith.{digits_mod}
 use lib.Bits.{bit_xor, xor_assoc, xor_self, xor_zero_l, xor_zero_r, xor_lt}
 use Rattle.cell.specs.CheckOctet.{check_octet}
@@ -95,9 +94,6 @@ pub decoded_coded : (p : ℕ) (cell : List ℕ) → length cell ≡ 52 → ((i :
 decoded_coded p cell long octet =
     decoded_again cell p (get_or cell 0 0) (get_or cell 1 0) (get_or cell 2 0) (get_or cell 3 0) (drop 4 cell) (four_and_rest cell long)
     (octet 0) (octet 1) (octet 2) (octet 3)
-
-pub payload_part : (cell : List ℕ) → length cell ≡ 52 → mid_of 4 48 cell ≡ drop 4 cell
-payload_part cell long = take_all 48 (drop 4 cell) (simp length-drop (omega (arith, long)))
 
 -- the header of a coded cell, read off its octets
 pub coded_header_on : (cell : List ℕ) (p : ℕ) → header_of cell < 2 ^ 32

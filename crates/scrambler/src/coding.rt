@@ -7,6 +7,7 @@ use crate::payload::mask_payload;
 use crate::samples::{header_mask, predicted_samples};
 use cell::header::Header;
 use cell::line_header::LineHeader;
+use cell::octets::cell_parts;
 use cell::refusal::Refusal;
 use cell::sizes::{CELL_OCTETS, HEADER_OCTETS, LINE_HEADER_OCTETS, LINE_OCTETS, PAYLOAD_OCTETS};
 
@@ -25,14 +26,12 @@ pub fn code_header(header: Header, phase: u32) -> LineHeader
 }
 
 // The 53 octets of a cell at a phase. Of a phase above 2^31 - 1 the low 31 bits count.
-#[tactic(auto, using(crate::proofs::Codes::decoded_coded, crate::proofs::Codes::payload_part), unfolding(crate::specs::Coding::coded))]
+#[tactic(auto, using(crate::proofs::Codes::decoded_coded), unfolding(crate::specs::Coding::coded))]
 pub fn code_octets(cell: &[u8; CELL_OCTETS], phase: u32) -> [u8; LINE_OCTETS]
     ensures written { result ≡ coded phase cell.now }
     ensures back { decoded phase result ≡ cell.now }
 {
-    let header = Header::from([cell[0], cell[1], cell[2], cell[3]]);
-    let mut payload = [0; PAYLOAD_OCTETS];
-    payload.copy_from_slice(&cell[HEADER_OCTETS..]);
+    let (header, mut payload) = cell_parts(cell);
     mask_payload(phase, &mut payload);
     line_octets(code_header(header, phase), &payload)
 }

@@ -18,8 +18,8 @@ pub fn find_phase(word: u32) -> Result<u32, Refusal>
     Ok(phase_by(&ROWS, word))
 }
 
-// The phase by rows that undo the sampling: the sum of the bits of the word that each row picks, the first row's on top. The rows are handed
-// over so that a wrong one is refused where the table is used.
+// The phase by rows that undo the sampling: the sum of the bits of the word that each row picks, the first row's on top. The rows are a
+// parameter, so that what holds of any such rows is said of a name and not of 31 words.
 fn phase_by(rows: &[u32; 31], word: u32) -> u32
     requires undo { rows.now ≡ phase_rows }
     requires small { word < 2 ^ 31 }

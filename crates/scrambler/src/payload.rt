@@ -22,7 +22,7 @@ pub fn mask_payload(phase: u32, payload: &mut [u8; PAYLOAD_OCTETS])
     );
 }
 
-// The phase after the HEC octet: the generator runs on during it. By itself, so that a fault in the count is refused at its clause.
+// The phase after the HEC octet: the generator runs on during it. A name says more than the eight steps in place.
 fn past_hec(phase: u32) -> u32
     ensures { Steps 8 phase result }
 {

@@ -10,7 +10,7 @@ use std::fmt;
 use text::number;
 
 // What the arguments ask for.
-#[derive(Clone, Copy, PartialEq, Eq, Drop)]
+#[derive(Clone, Copy, PartialEq, Eq)]
 pub struct Arguments {
     // the phase of the first cell
     pub phase: u32,
@@ -21,7 +21,7 @@ pub struct Arguments {
 }
 
 // Why the arguments are refused: what is wrong with the one that a word names.
-#[derive(Clone, Copy, Debug, PartialEq, Eq, Drop)]
+#[derive(Clone, Copy, Debug, PartialEq, Eq)]
 pub enum Why {
     // no argument has this name
     Unknown,
@@ -80,7 +80,7 @@ fn lacking(name: &str) -> Why
 }
 
 // The arguments that stand in the words read so far.
-#[derive(Clone, Copy, Default, Drop)]
+#[derive(Clone, Copy, Default)]
 struct Given {
     phase: Option<u32>,
     lead: Option<u32>,

@@ -6,7 +6,7 @@ use cell::header::Kind;
 use std::fmt;
 
 // A counter stops at its top.
-#[derive(Clone, Copy, Debug, Default, PartialEq, Eq, Drop)]
+#[derive(Clone, Copy, Debug, Default, PartialEq, Eq)]
 pub struct Tally {
     // octets of the block
     pub octets: u64,

@@ -16,7 +16,7 @@ const HEADER_BITS: u32 = LINE_HEADER_BITS as u32;
 pub(crate) struct Window {
     // the last 40, the newest below; before they have come, zeros stand for those that are missing
     bits: u64,
-    // how many have come, up to 40; as wide as it is read, which an octet among others is not
+    // how many have come, up to 40; no octet, since the load of one behind a wider store made feeding slower
     come: u32,
 }
 

@@ -8,7 +8,7 @@ ghost use Rattle.ring.specs.Window.{around};
 use super::Ring;
 
 impl<'a, T: Copy> Ring<'a, T> {
-    // How many elements are held.
+    // How many elements are held. The bound is said here too, for callers, who see no field.
     pub fn len(&self) -> usize
         ensures value { result ≡ length (held self.now) }
         ensures small { result ≤ 1024 }

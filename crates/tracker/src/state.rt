@@ -57,11 +57,9 @@ pub(crate) const LAST_OCTET: u8 = 47;
 
 pub(crate) const LAST_HEADER_BIT: u8 = 39;
 
-// Where the next bit falls. HUNT is a state that has a name, so it is no None.
+// Where the next bit falls, the commonest place first, so that it is asked for first. HUNT is a state that has a name, so it is no None.
 #[derive(Clone, Copy, Debug, PartialEq, Eq, Hash)]
 pub enum Place {
-    // the boundary is hunted for
-    Hunt,
     // into a payload
     Payload {
         // after this one
@@ -78,6 +76,8 @@ pub enum Place {
         bits: u8,
         lock: Lock,
     },
+    // the boundary is hunted for
+    Hunt,
 }
 
 // The state that a header changes. The mode outlives the boundary.

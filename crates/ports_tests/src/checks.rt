@@ -4,7 +4,7 @@ ghost use Rattle.std.specs.Prelude.{IfOk, IsTrue};
 use cell::refusal::Refusal;
 use std::test::Fail;
 
-// A failure, unless it holds. It is for helpers, which have no handle.
+// A failure, unless what is checked holds. For helpers: they are not given the runtime that assert! takes.
 pub fn check(holds: bool) -> Result<(), Fail>
     ensures { IfOk result (λ _. IsTrue holds) }
 {

@@ -23,6 +23,7 @@ fn at_bit(bit: u64) -> Event {
 fn fills(slots: &mut [Event], places: u64) -> Result<(), Fail> {
     let mut ring = Ring::new(slots);
     check(ring.places() as u64 == places)?;
+    // the whole again, and no index
     for _ in 0..3u8 {
         for bit in 0..places {
             ring.push(at_bit(bit))?;

@@ -51,6 +51,7 @@ fn pass_on<P: CountedSource, Q: CountedSource, L: Sink, R: Sink>(
         boundary: BOUNDARY,
     };
     let mut moved: u32 = 0;
+    // as many times as the ring has to be filled; no index
     for _ in 0..3u8 {
         let _ = drain(&mut from, ring);
         moved = moved.saturating_add(drain(ring, &mut to).moved);

@@ -29,7 +29,11 @@ impl Arguments {
     pub fn parse(words: &[String]) -> Result<Arguments, Fault<Why>>
         ensures { result ≡ parsed (map string_bytes words.now) }
     {
-        read(Arguments::default(), 0, words)
+        let mut given = Arguments::default();
+        for (at, word) in words.iter().enumerate() {
+            given = given.take(word.as_str()).map_err(|why| Fault { at, why })?;
+        }
+        Ok(given)
     }
 
     // Takes an argument, by the word that names it.
@@ -54,20 +58,6 @@ impl Arguments {
                 events: true,
                 ..self
             }),
-        }
-    }
-}
-
-// Reads the words from number `at` on, where those before them gave what is given.
-fn read(given: Arguments, at: usize, words: &[String]) -> Result<Arguments, Fault<Why>>
-    requires { at + length words.now < 2 ^ 64 }
-    ensures { result ≡ read_from given at (map string_bytes words.now) }
-{
-    match words {
-        [] => Ok(given),
-        [word, rest @ ..] => {
-            let given = given.take(word.as_str()).map_err(|why| Fault { at, why })?;
-            read(given, at + 1, rest)
         }
     }
 }

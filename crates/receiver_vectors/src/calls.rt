@@ -64,15 +64,11 @@ fn feed_call(heap: Global, text: &[u8]) -> Result<Option<Call>, AllocError>
 fn sink_kind(text: &[u8]) -> Option<SinkKind>
     ensures { SinkText text.now result }
 {
-    let word = words::first(text);
-    if word == b"ring".as_slice() {
-        ring_kind(words::others(text))
-    } else if word == b"split".as_slice() {
-        split_kind(words::others(text))
-    } else if text == b"closed".as_slice() {
-        Some(SinkKind::Closed)
-    } else {
-        None
+    match words::first(text) {
+        b"ring" => ring_kind(words::others(text)),
+        b"split" => split_kind(words::others(text)),
+        _ if text == b"closed".as_slice() => Some(SinkKind::Closed),
+        _ => None,
     }
 }
 

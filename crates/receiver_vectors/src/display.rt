@@ -35,7 +35,7 @@ impl fmt::Display for End {
     }
 }
 
-// A word for each part of the state, with its count where it has one.
+// A word for each part of the state, with its count where it has one: the vectors tell less of a state than its own Display does.
 fn write_state<W: fmt::Write>(f: &mut fmt::Formatter<W>, state: State) -> fmt::Result {
     match state.boundary {
         Boundary::Hunt => write!(f, "state HUNT 0")?,

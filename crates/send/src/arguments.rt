@@ -49,7 +49,8 @@ impl Arguments {
     }
 }
 
-// Reads the words from number `at` on, where those before them gave what is given.
+// Reads the words from number `at` on, where those before them gave what is given. By patterns over the rest: two words at a time, and a
+// name alone where its value is missing.
 fn read(given: Given, at: usize, words: &[String]) -> Result<Given, Fault<Why>>
     requires { at + length words.now < 2 ^ 64 }
     ensures { result ≡ read_from given at (map string_bytes words.now) }

@@ -14,7 +14,7 @@ use Rattle.ports.specs.Cell.{Cell, octets}
 use Rattle.scrambler.specs.Coding.{coded}
 use Rattle.sender.specs.Sender.{SenderState, Sends, fresh, cell_sent, kind_sent, left_waiting, advanced, f3_cell}
 use Rattle.sender.specs.Told.{Octets, KindWhy, SendTold}
-use Rattle.line.specs.Stream.{Send}
+use Rattle.sender.specs.Stream.{Send}
 use Rattle.line.specs.Sending as sending
 use Rattle.line.specs.Sending.{Sending, Stream, History, sent}
 

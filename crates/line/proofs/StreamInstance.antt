@@ -4,8 +4,8 @@ use Rattle.std.specs.List.{AllByRecursion}
 use Rattle.ports.specs.Cell.{Cell, of_connection}
 use Rattle.ports.specs.Sink.{SinkState}
 use Rattle.sender.specs.Sender.{SenderState, fresh, advanced}
-use Rattle.line.specs.Stream.{Send, SentStream, line_of, sent_users}
-use Rattle.line.proofs.StreamLaws.{stream_laws}
+use Rattle.sender.specs.Stream.{Send, SentStream, line_of, sent_users}
+use Rattle.sender.proofs.Streams.{stream_laws}
 use Rattle.tracker.specs.declared.tracker.Tracker.{Tracker}
 use Rattle.tracker.specs.Tracker.{start}
 use Rattle.receiver.specs.Handing.{Moment, bits}

@@ -6,9 +6,9 @@ use Rattle.cell.specs.declared.refusal.Refusal.{Refusal}
 use Rattle.ports.specs.Cell.{User}
 use Rattle.sender.specs.Sender.{SenderState, fresh, StartAnswer, started}
 use Rattle.sender.specs.Told.{F3Answer}
-use Rattle.line.specs.Stream as stream
-use Rattle.line.specs.Stream.{Send, Run, none, more, f3_set, Begins, SentStream}
-use Rattle.line.proofs.StreamLaws.{stream_laws}
+use Rattle.sender.specs.Stream as stream
+use Rattle.sender.specs.Stream.{Send, Run, none, more, f3_set, Begins, SentStream}
+use Rattle.sender.proofs.Streams.{stream_laws}
 use Rattle.line.specs.Sending as call
 use Rattle.line.specs.Sending.{Sending, Call, Sends, Calls, History, made, called, Stream, Streams, beginning, started_with, sent_by, sent_with, sent, streams}
 

@@ -17,7 +17,7 @@ use Rattle.cell.specs.declared.refusal.Refusal.{Refusal}
 use Rattle.ports.specs.Cell.{Cell, User}
 use Rattle.sender.specs.Sender.{SenderState, fresh, cell_sent, StartAnswer, SendAnswer}
 use Rattle.sender.specs.Told.{SendTells, F3Answer}
-use Rattle.line.specs.Stream.{Send}
+use Rattle.sender.specs.Stream.{Send}
 
 pub record Sending : Type 0 where
   pub waiting : List Cell

@@ -17,7 +17,7 @@ use Rattle.cell.specs.declared.refusal.Refusal.{Refusal}
 use Rattle.ports.specs.Cell.{User}
 use Rattle.sender.specs.Sender.{SenderState, StartAnswer, SendAnswer}
 use Rattle.sender.specs.Told.{SendTells, F3Answer}
-use Rattle.line.specs.Stream.{SentStream}
+use Rattle.sender.specs.Stream.{SentStream}
 use Rattle.tracker.specs.declared.tracker.Moment.TheVariants as moment
 use Rattle.tracker.specs.Reading.{state_of}
 use Rattle.tracker.specs.Tracker.{start, bit_brings}

@@ -69,7 +69,7 @@ module _ (laws : (all : List Moment) → Heard start all → LawsThroughout all)
       record {
         streams = streams-sent h;
         start = λ p answer s' x. sending.called h x;
-        send = λ x s' us y told. sending.called h (us, (y, told));
+        send = λ x s' us y. sending.called h (us, y);
         set_f3 = λ f answer s' x. sending.called h x;
       }
 

@@ -18,7 +18,7 @@ use Rattle.scrambler.proofs.Masks.{ago_lt, sample7_lt}
 use Rattle.scrambler.proofs.Payloads.{length-masked, masked_twice}
 use Rattle.scrambler.proofs.Rows.{one_phase_lem}
 use Rattle.scrambler.proofs.Steps.{back_step, step_lt, steps_lt, iterate_add}
-use Rattle.sender.specs.Told.{Octets}
+use Rattle.sender.specs.Sender.{Octets}
 use Rattle.tracker.specs.Window.{syndrome_in, agrees, samples_in, predicted, freed, header_in}
 use Rattle.receiver.specs.Run.{octet_bits, bits_of}
 use Rattle.line.proofs.Bits.{value, value_from, octets_of, value_from_lem, value_append, value_octet, octets_of_lem, length-bits_of}

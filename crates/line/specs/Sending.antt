@@ -15,8 +15,7 @@ use Rattle.std.specs.List.{AllByRecursion}
 use Rattle.cell.specs.declared.header.Kind.{Kind}
 use Rattle.cell.specs.declared.refusal.Refusal.{Refusal}
 use Rattle.ports.specs.Cell.{Cell, User}
-use Rattle.sender.specs.Sender.{SenderState, fresh, cell_sent, StartAnswer, SendAnswer}
-use Rattle.sender.specs.Told.{SendTells, F3Answer}
+use Rattle.sender.specs.Sender.{SenderState, fresh, cell_sent, StartAnswer, SendAnswer, F3Answer}
 use Rattle.sender.specs.Stream.{Send}
 
 pub record Sending : Type 0 where
@@ -31,12 +30,9 @@ pub data Call : Type 0 where
   send : Sending → Call
   set_f3 : List ℕ → Result (Unit {0}) Refusal → Call
 
-abbrev pub Sends : SenderState → Sending → Result Kind Refusal → SenderState → Type 0
-Sends s x answer s' = SendAnswer s x.waiting x.place answer s' x.waiting' x.place' × SendTells s x.waiting answer
-
 abbrev pub Calls : SenderState → Call → SenderState → Type 0
 Calls s (start p answer) s' = StartAnswer s p answer s'
-Calls s (send x) s' = AllByRecursion User x.waiting × Sends s x x.answer s'
+Calls s (send x) s' = AllByRecursion User x.waiting × SendAnswer s x.waiting x.place x.answer s' x.waiting' x.place'
 Calls s (set_f3 f answer) s' = F3Answer s f answer s'
 
 pub data History : List Call → SenderState → Type 0 where

@@ -15,8 +15,7 @@ use Rattle.std.specs.Prelude.{◌≡◌, ℕ, ◌<◌, ◌≤◌, List, [], ◌�
 use Rattle.std.specs.List.{AllByRecursion}
 use Rattle.cell.specs.declared.refusal.Refusal.{Refusal}
 use Rattle.ports.specs.Cell.{User}
-use Rattle.sender.specs.Sender.{SenderState, StartAnswer, SendAnswer}
-use Rattle.sender.specs.Told.{SendTells, F3Answer}
+use Rattle.sender.specs.Sender.{SenderState, StartAnswer, SendAnswer, F3Answer}
 use Rattle.sender.specs.Stream.{SentStream}
 use Rattle.tracker.specs.declared.tracker.Moment.TheVariants as moment
 use Rattle.tracker.specs.Reading.{state_of}
@@ -70,7 +69,7 @@ pub record Sent {cs : List sending.Call} {s : SenderState} (h : sending.History 
   -- the next call
   pub start : (p : ℕ) (answer : Result (Unit {0}) Refusal) (s' : SenderState) → StartAnswer s p answer s' → sending.History (sending.start p answer ∷ cs) s'
   pub send : (x : sending.Sending) (s' : SenderState) → AllByRecursion User x.waiting → SendAnswer s x.waiting x.place x.answer s' x.waiting' x.place'
-      → SendTells s x.waiting x.answer → sending.History (sending.send x ∷ cs) s'
+      → sending.History (sending.send x ∷ cs) s'
   pub set_f3 : (f : List ℕ) (answer : Result (Unit {0}) Refusal) (s' : SenderState) → F3Answer s f answer s' → sending.History (sending.set_f3 f answer ∷ cs) s'
 
 pub record LineTheorem : Type 0 where

@@ -13,7 +13,7 @@ use Rattle.scrambler.specs.Coding.{header_mask, sample8, sample7, samples, maske
 use Rattle.scrambler.specs.Generator.{step, iterate, octet_ahead}
 use Rattle.scrambler.proofs.Masks.{ago_lt, sample7_lt}
 use Rattle.scrambler.proofs.Payloads.{length-masked}
-use Rattle.sender.specs.Told.{Octets}
+use Rattle.sender.specs.Sender.{Octets}
 
 pub all_octets : (xs : List ℕ) → ((i : ℕ) → get_or xs i 0 < 2 ^ 8) → AllByRecursion (λ x. x < 2 ^ 8) xs
 all_octets xs h = All-from_get_or _ xs 0 (λ i _. h i)

@@ -16,13 +16,12 @@ use Rattle.scrambler.specs.Coding.{coded, coded_header, CarriesSamples}
 use Rattle.scrambler.specs.Generator.{step, iterate}
 use Rattle.scrambler.proofs.Codes.{coded_header_on, carries_samples}
 use Rattle.scrambler.proofs.Steps.{iterate_add}
-use Rattle.sender.specs.Sender.{SenderState, waiting_kind, waiting_cell, rest, advanced, f3_cell}
-use Rattle.sender.specs.Told.{Octets, with_f3}
-use Rattle.sender.specs.Stream.{Send, Sent, Run, none, more, f3_set, Begins, made, start, line_of, lost_to, header_on, CellLaws, Parted, StreamLaws}
+use Rattle.sender.specs.Sender.{SenderState, idle_cell, waiting_kind, waiting_cell, rest, advanced, f3_cell, Octets, with_f3}
+use Rattle.sender.specs.Stream.{Send, Accepted, Run, none, more, f3_set, Begins, made, start, cells_of, line_of, coded_from, lost_to, header_on, CellLaws, Parted, StreamLaws}
 use Rattle.sender.proofs.Octets.{coded-octets}
 use Rattle.sender.proofs.Phases.{steps_running}
 
-pub runs_joined : (s t u : SenderState) (xs ys : List Send) → Run s xs t → Run t ys u → Run s (xs ++ ys) u
+runs_joined : (s t u : SenderState) (xs ys : List Send) → Run s xs t → Run t ys u → Run s (xs ++ ys) u
 runs_joined s t u [] ys none r = r
 runs_joined s t u (x ∷ xs) ys (more h q) r = more h (runs_joined _ t u xs ys q r)
 runs_joined s t u xs ys (f3_set f q) r = f3_set f (runs_joined _ t u xs ys q r)
@@ -37,7 +36,7 @@ parted_at (suc n) s u xs (f3_set f q) =
     let parts = parted_at (suc n) _ u xs q in
     record { middle = parts.middle; front = f3_set f parts.front; back = parts.back }
 
-pub run_parted : (s u : SenderState) (xs ys : List Send) → Run s (xs ++ ys) u → Parted s xs ys u
+run_parted : (s u : SenderState) (xs ys : List Send) → Run s (xs ++ ys) u → Parted s xs ys u
 run_parted s u xs ys r =
     subst (λ (front : List Send). Parted s front ys u) (take-append_seam xs ys)
     (subst (λ (back : List Send). Parted s (take (length xs) (xs ++ ys)) back u) (drop-append_seam xs ys) (parted_at (length xs) s u (xs ++ ys) r))
@@ -66,7 +65,7 @@ run_moves s u xs h (f3_set f run) = run_moves _ u xs h run
 record Sending (s : SenderState) (x : Send) : Type 0 where
   state : SenderState
   next : SenderState
-  sent : Sent state x next
+  sent : Accepted state x next
   phase : state.phase ≡ s.phase
   number : state.number ≡ s.number
 
@@ -83,7 +82,7 @@ run_first s u [] none = tt
 run_first s u (x ∷ xs) (more sent run) = record { state = s; next = _; sent = sent; phase = refl; number = refl }
 run_first s u xs (f3_set {f = f} o run) = f3_kept s f xs (run_first _ u xs run)
 
-pub begin : (p : ℕ) (s : SenderState) → Begins p s → (s.phase ≡ p) × (s.number ≡ 0) × (0 < p) × (p < 2 ^ 31)
+begin : (p : ℕ) (s : SenderState) → Begins p s → (s.phase ≡ p) × (s.number ≡ 0) × (0 < p) × (p < 2 ^ 31)
 begin p s made = (refl, refl, lit< tt, lit< tt)
 begin p s (start _ _ h b) = (refl, refl, h, b)
 
@@ -99,6 +98,11 @@ header_lt : (t : Bool) (f : List ℕ) (w : List Cell) → AllByRecursion cells.U
 header_lt true f w us = lit< tt
 header_lt false f [] us = lit< tt
 header_lt false f (c ∷ w) us = us.0.fits
+
+idle_only : (t : Bool) (f : Cell) (w : List Cell) → cond t F3 (waiting_kind w) ≡ Idle → (w ≡ []) × (cond t f (waiting_cell w) ≡ idle_cell)
+idle_only true f w e = absurd (let z : ◌≡◌ {A = ℕ} 0 1 = cc in omega arith)
+idle_only false f [] e = (refl, refl)
+idle_only false f (c ∷ w) e = absurd (let z : ◌≡◌ {A = ℕ} 0 1 = cc in omega arith)
 
 taken_by_lem : (t : Bool) (f : Cell) (w : List Cell) (kind : Kind) (cell : Cell) (left : List Cell)
     → kind ≡ cond t F3 (waiting_kind w) → cell ≡ cond t f (waiting_cell w) → left ≡ cond t w (rest w) → w ≡ lost_to kind cell ++ left
@@ -118,7 +122,7 @@ kind_by false f (c ∷ w) us = user_kind (kind_of c.header) us.0.user
     user_kind Idle e = absurd (subst T e tt)
     user_kind F3 e = absurd (subst T e tt)
 
-module _ (x : Send) (b : SenderState) (next : SenderState) (sent : Sent b x next) where
+module _ (x : Send) (b : SenderState) (next : SenderState) (sent : Accepted b x next) where
   sent_header_lt : x.cell.header < 2 ^ 32
   sent_header_lt = subst (λ (c : Cell). c.header < 2 ^ 32) (sym sent.cell) (header_lt (eqb b.number 0) b.f3 x.waiting sent.users)
 
@@ -126,12 +130,12 @@ module _ (x : Send) (b : SenderState) (next : SenderState) (sent : Sent b x next
   sent_kind = sent.sends.sort ∙ kind_by (eqb b.number 0) b.f3 x.waiting sent.users ∙ ap (λ (c : Cell). kind_of c.header) (sym sent.cell)
 
   sent_payload : Octets 48 x.cell.payload
-  sent_payload = subst (λ (c : Cell). Octets 48 c.payload) (sym sent.cell) sent.told.payload
+  sent_payload = subst (λ (c : Cell). Octets 48 c.payload) (sym sent.cell) sent.sends.payload
 
   sent-written : x.line ≡ coded x.phase (octets x.cell)
   sent-written = sent.sends.written ∙ ap₂ (λ (q : ℕ) (c : Cell). coded q (octets c)) (sym sent.phase) (sym sent.cell)
 
-  pub sent_line : Octets 53 x.line
+  sent_line : Octets 53 x.line
   sent_line = subst (Octets 53) (sym sent-written) (coded-octets x.phase x.cell sent_header_lt sent_payload)
 
   sent_carries : CarriesSamples (header_on x.line) x.phase
@@ -156,6 +160,9 @@ module _ (x : Send) (b : SenderState) (next : SenderState) (sent : Sent b x next
           (λ e. sym number ∙ eqb→eq b.number 0 (subst T (sym (f3_only (eqb b.number 0) x.waiting (sym sent.sends.sort ∙ e))) tt)),
           λ e. sent.sends.sort ∙ ap (λ (n : ℕ). cond (eqb n 0) F3 (waiting_kind x.waiting)) (number ∙ e),
         );
+        idle = λ e.
+            (let alone = idle_only (eqb b.number 0) (f3_cell b) x.waiting (sym sent.sends.sort ∙ e) in
+            (alone.0, sent.cell ∙ alone.1));
         kind = (sent_header_lt, sent_kind);
         header = sent_carries;
         taken = taken_by_lem (eqb b.number 0) (f3_cell b) x.waiting x.kind x.cell x.left sent.sends.sort sent.cell sent.sends.left;
@@ -163,7 +170,7 @@ module _ (x : Send) (b : SenderState) (next : SenderState) (sent : Sent b x next
 
 -- ---- of runs
 
-pub run_line : (s u : SenderState) (xs : List Send) → Run s xs u → Octets (53 * length xs) (line_of xs)
+run_line : (s u : SenderState) (xs : List Send) → Run s xs u → Octets (53 * length xs) (line_of xs)
 run_line s u [] none = (refl, tt)
 run_line s u (x ∷ xs) (more {t = t} sent run) =
     let first = sent_line x s t sent in
@@ -173,10 +180,18 @@ run_line s u (x ∷ xs) (more {t = t} sent run) =
     )
 run_line s u xs (f3_set f run) = run_line _ u xs run
 
+run_coded : (s u : SenderState) (xs : List Send) → Run s xs u → line_of xs ≡ coded_from s.phase (cells_of xs)
+unfolding coded_from
+run_coded s u [] none = refl
+run_coded s u (x ∷ xs) (more {t = t} sent run) =
+    ap₂ ◌++◌ (sent-written x s t sent ∙ ap (λ (q : ℕ). coded q (octets x.cell)) sent.phase)
+    (run_coded t u xs run ∙ ap (λ (z : SenderState). coded_from z.phase (cells_of xs)) sent.sends.after)
+run_coded s u xs (f3_set f run) = run_coded _ u xs run
+
 pub stream_laws : StreamLaws
 stream_laws =
     record {
-      accepted = λ s s' waiting left kind line users sends told. record { users = users; phase = refl; cell = refl; sends = sends; told = told };
+      accepted = λ s s' waiting left kind line users sends. record { users = users; phase = refl; cell = refl; sends = sends };
       cells = λ p xs stream front x back e.
           (let s = stream.first in
           let (phase, number, low, high) = begin p s stream.begins in
@@ -186,7 +201,8 @@ stream_laws =
           cell_laws x sending.state sending.next sending.sent p front low high
           (sending.phase ∙ moved.0 ∙ ap (iterate (424 * length front) step) phase)
           (sending.number ∙ moved.1 ∙ ap (λ (n : ℕ). (n + length front) % 432) number ∙ ap (λ (n : ℕ). n % 432) (zero-add (length front))));
-      line = λ p xs stream. run_line stream.first stream.last xs stream.run;
+      line = λ p xs stream. run_coded stream.first stream.last xs stream.run ∙ ap (λ (q : ℕ). coded_from q (cells_of xs)) (begin p stream.first stream.begins).0;
+      octets = λ p xs stream. run_line stream.first stream.last xs stream.run;
       joined = runs_joined;
       parted = run_parted;
     }

@@ -21,8 +21,8 @@ const F3_PERIOD: u16 = 432;
 // Each octet of an idle cell's payload, and of an F3 cell's until another is set.
 const FILL: u8 = 0x6a;
 
-// A sending end. Its phase is never 0, so what it sends is always scrambled.
-#[derive(Clone, Copy)]
+// A sending end. Its phase is never 0, so what it sends is always scrambled. It cannot be copied, so that each has one history.
+#[derive(Drop)]
 pub struct Sender {
     // the phase of the next cell
     phase: u32,

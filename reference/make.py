@@ -42,6 +42,7 @@ def main() -> int:
             found = path.read_bytes() if path.exists() else None
             word = "same" if found == wanted else "differs"
             if found != wanted and not checking:
+                path.parent.mkdir(exist_ok=True)
                 path.write_bytes(wanted)
                 word = "written"
             differing += word == "differs"

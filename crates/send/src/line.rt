@@ -1,11 +1,12 @@
 // The line as it goes out: the sending end, its phase, and what was sent so far.
 ghost use Rattle.std.specs.Prelude.{◌≡◌, ◌^◌, ◌<◌, MatchResult};
 ghost use Rattle.sender.specs.Sender.{fresh, started, kind_sent, Sends, StartWhy};
+ghost use Rattle.sender.specs.Told.{with_f3};
 ghost use Rattle.send.specs.Tally.{none, counted_cell, counted_octets};
 
 use crate::tally::Tally;
 use cell::refusal::Refusal;
-use cell::sizes::LINE_OCTETS;
+use cell::sizes::{LINE_OCTETS, PAYLOAD_OCTETS};
 use ports::source::Source;
 use sender::sender::Sender;
 
@@ -26,6 +27,16 @@ impl Line {
             sender,
             tally: Tally::default(),
         })
+    }
+
+    // Sets the payload of the F3 cells that go out from now on.
+    pub fn set_f3(&mut self, payload: &[u8; PAYLOAD_OCTETS])
+        ensures sender { self.new.sender ≡ with_f3 self.old.sender payload.now }
+        ensures same { self.new.tally ≡ self.old.tally }
+    {
+        let Ok(()) = self.sender.set_f3(payload) else {
+            unreachable!()
+        };
     }
 
     // Sends the next cell, and counts it: its octets on the line.

@@ -16,7 +16,8 @@
 --   read_from g at words  what is given after all words, of which the first is number `at`, or which argument is at fault, by the number
 --                         of the word that names it, and why
 --   parsed words          what the words ask for
-use Rattle.std.specs.Prelude.{ℕ, ◌+◌, ◌-◌, ◌*◌, ◌^◌, cond, List, [], ◌∷◌, Some, None, Ok, Err, Option, Result, nat_lt}
+--   why_text why          what is printed of a refusal, as octets of text
+use Rattle.std.specs.Prelude.{ℕ, ◌+◌, ◌-◌, ◌*◌, ◌^◌, cond, List, [], ◌∷◌, codes, Some, None, Ok, Err, Option, Result, nat_lt}
 use Rattle.std.specs.Option.{ok_or}
 use Rattle.cell.specs.Header.{reserved}
 use Rattle.command_line.specs.declared.fault.Fault.{Fault}
@@ -26,7 +27,7 @@ use Rattle.send.specs.declared.name.Name.TheVariants.{Phase, Lead, Vpi, Vci, Hea
 use Rattle.send.specs.declared.arguments.Arguments.{Arguments}
 use Rattle.send.specs.declared.arguments.Given.{Given}
 use Rattle.send.specs.declared.arguments.Why.{Why}
-use Rattle.send.specs.declared.arguments.Why.TheVariants.{NoValue, NoNumber, OutOfRange, Reserved, Repeated, TwoHeaders}
+use Rattle.send.specs.declared.arguments.Why.TheVariants.{Unknown, NoValue, NoNumber, OutOfRange, Reserved, Repeated, TwoHeaders}
 use Rattle.text.specs.Number.{number_of}
 
 abbrev pub nothing : Given
@@ -111,3 +112,12 @@ arguments_of g = record { phase = or_else 1 g.phase; lead = or_else 32 g.lead; h
 
 abbrev pub parsed : List (List ℕ) → Result Arguments (Fault Why)
 parsed words = elim (read_from nothing 0 words) [ Ok g ↦ Ok (arguments_of g) | Err e ↦ Err e ]
+
+abbrev pub why_text : Why → List ℕ
+why_text Unknown = codes "no such argument"
+why_text NoValue = codes "an argument lacks its value"
+why_text NoNumber = codes "the value is no number from 0 to 4294967295, decimal or behind 0x"
+why_text OutOfRange = codes "the value is out of range"
+why_text Reserved = codes "the header is reserved for idle or F3 cells"
+why_text Repeated = codes "an argument is given twice"
+why_text TwoHeaders = codes "the header is given as a whole and by its fields"

@@ -1,6 +1,6 @@
 // The arguments: what they ask for, or why they are refused.
-ghost use Rattle.std.specs.Prelude.{◌≡◌, ◌+◌, ◌^◌, ◌<◌, map, length, string_bytes};
-ghost use Rattle.send.specs.Arguments.{spelled, in_range, once_more, field_given, header_given, gave, taken, alone, header_of, arguments_of, read_from, parsed};
+ghost use Rattle.std.specs.Prelude.{◌≡◌, ◌+◌, ◌^◌, ◌<◌, Some, map, length, string_bytes};
+ghost use Rattle.send.specs.Arguments.{spelled, in_range, once_more, field_given, header_given, gave, taken, alone, header_of, arguments_of, read_from, parsed, why_text};
 
 use crate::name::Name;
 use cell::header::Header;
@@ -116,11 +116,17 @@ impl Given {
                 ..self
             }),
             Name::Vpi => Ok(Given {
-                vpi: self.field(self.vpi, u8::try_from(spelled(value)?).map_err(|_| Why::OutOfRange)?)?,
+                vpi: self.field(
+                    self.vpi,
+                    u8::try_from(spelled(value)?).map_err(|_| Why::OutOfRange)?,
+                )?,
                 ..self
             }),
             Name::Vci => Ok(Given {
-                vci: self.field(self.vci, u16::try_from(spelled(value)?).map_err(|_| Why::OutOfRange)?)?,
+                vci: self.field(
+                    self.vci,
+                    u16::try_from(spelled(value)?).map_err(|_| Why::OutOfRange)?,
+                )?,
                 ..self
             }),
             Name::Header => Ok(Given {
@@ -210,6 +216,8 @@ fn once<T: Copy>(before: Option<T>, value: T) -> Result<Option<T>, Why>
 }
 
 impl fmt::Display for Why {
+    ghost output = { λ why. Some (why_text why) };
+
     fn fmt<W: fmt::Write>(&self, f: &mut fmt::Formatter<W>) -> fmt::Result {
         f.write_str(match *self {
             Why::Unknown => "no such argument",

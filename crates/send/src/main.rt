@@ -21,12 +21,13 @@ mod arguments;
 mod f3_payload;
 mod line;
 mod name;
+mod summary;
 mod tally;
 
 // So many octets are read at a time. They fill whole cells, so that only the last cell of the block is filled with zeros.
 const PART_OCTETS: usize = 65_520;
 
-// So many cells go out behind the block, for the receiving end to hand up the last of it.
+// So many cells go out behind the block, so that its last bit comes whole also where the receiving end's octets begin elsewhere.
 const TRAIL_CELLS: u32 = 8;
 
 const USAGE: &str =
@@ -60,9 +61,7 @@ fn run(rt: &HostRuntime) -> anyhow::Result<ExitCode> {
     }
     let mut part = [0u8; PART_OCTETS];
     send(rt, &mut line, arguments, &mut part)?;
-    let phase = line.phase();
-    let tally = line.tally();
-    eprintln!(rt; "{tally}; phase at the end 0x{phase:08X}")?;
+    rt.eprintln(line.summary())?;
     Ok(ExitCode::SUCCESS)
 }
 

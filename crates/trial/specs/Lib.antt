@@ -1,3 +1,5 @@
 pub mod Damage
 pub mod Command
 pub mod Ends
+pub mod Tally
+pub mod Trial

@@ -7,6 +7,8 @@ use std::io;
 mod command;
 mod damage;
 mod ends;
+mod tally;
+mod trial;
 
 fn main(rt: HostRuntime) -> io::Result<()> {
     match Command::read(b"turn 4 7") {

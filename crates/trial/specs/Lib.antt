@@ -3,3 +3,4 @@ pub mod Command
 pub mod Ends
 pub mod Tally
 pub mod Trial
+pub mod Outcome

@@ -9,19 +9,24 @@
 --   Came os sent t q counts t' q'  the octets os came at the receiving end, which began with the ring of events q and left it as q': the cells
 --                                  that went up are counted beside the cell that was sent, if one was
 --   CellWent d t q counts t' q'    one cell was sent and went over the line with the damage d; what was sent and what went up is counted
-use Rattle.std.specs.Prelude.{◌≡◌, ℕ, ◌+◌, ◌%◌, ◌^◌, List, [], ◌∷◌, ◌++◌, replicate, Some, None, Option}
+--   Starts p t r t'      what a start at the phase p answers, and the trial after it
+--   F3Set o t t'         the F3 payload is 48 times the octet o from now on
+--   reset_trial t        the trial t with its receiving end reset
+use Rattle.std.specs.Prelude.{◌≡◌, ℕ, ◌+◌, ◌%◌, ◌^◌, List, [], ◌∷◌, ◌++◌, replicate, Some, None, Option, Result}
 use Rattle.cell.specs.declared.header.Kind.{Kind}
 use Rattle.cell.specs.declared.header.Kind.TheVariants.{Idle, F3, User}
+use Rattle.cell.specs.declared.refusal.Refusal.{Refusal}
 use Rattle.ring.specs.Ring.{held, places}
 use Rattle.ring.specs.declared.ring.Ring.{Ring}
 use Rattle.ports.specs.Cell.{Cell, header_octets}
 use Rattle.ports.specs.CellRing.{ring_cells, ring_state}
 use Rattle.ports.specs.declared.user_cell.UserCell.{UserCell}
-use Rattle.sender.specs.Sender.{Sends}
-use Rattle.receiver.specs.Feed.{Feeds, events_of}
+use Rattle.sender.specs.Sender.{Sends, StartAnswer}
+use Rattle.sender.specs.Told.{with_f3}
+use Rattle.receiver.specs.Feed.{Feeds, events_of, was_reset}
 use Rattle.receiver.specs.declared.event.EventRecord.{EventRecord}
 use Rattle.trial.specs.Damage.{turned}
-use Rattle.trial.specs.Ends.{made_pair}
+use Rattle.trial.specs.Ends.{Pair, made_pair}
 use Rattle.trial.specs.Tally.{none, counted_sent, counted_all}
 use Rattle.trial.specs.declared.damage.Damage.{Damage}
 use Rattle.trial.specs.declared.tally.Tally.{Tally}
@@ -73,3 +78,19 @@ pub record CellWent (d : Damage) (t : Trial) (q : Ring EventRecord) (counts : Ta
   pub sent : CellSent (user_cell t.number) t kind line between
   pub came : Came (turned d line) (if_sent kind (user_cell t.number)) between q up t' q'
   pub counted : counts ≡ counted_sent kind up
+
+abbrev pub trial_with : Trial → Pair → Trial
+trial_with t e = record { ends = e; number = t.number }
+
+pub record Starts {X : Type 0} (p : ℕ) (t : Trial) (r : Result X Refusal) (t' : Trial) : Type 0 where
+  pub answer : StartAnswer t.ends.sender p r t'.ends.sender
+  pub receiver : t'.ends.receiver ≡ t.ends.receiver
+  pub number : t'.number ≡ t.number
+
+pub record F3Set (o : ℕ) (t t' : Trial) : Type 0 where
+  pub sender : t'.ends.sender ≡ with_f3 t.ends.sender (replicate 48 o)
+  pub receiver : t'.ends.receiver ≡ t.ends.receiver
+  pub number : t'.number ≡ t.number
+
+abbrev pub reset_trial : Trial → Trial
+reset_trial t = trial_with t (record { sender = t.ends.sender; receiver = was_reset t.ends.receiver })

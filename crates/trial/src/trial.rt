@@ -1,11 +1,9 @@
 // The trial: two ends, user cells with numbers, and the line between them.
-ghost use Rattle.std.specs.Prelude.{◌≡◌, List, [], ◌∷◌, option_map, MatchResult};
-ghost use Rattle.ports.specs.Cell.{Cell};
+ghost use Rattle.std.specs.Prelude.{◌≡◌, option_map, MatchResult};
 ghost use Rattle.ports.specs.UserCell.{cell_of};
-ghost use Rattle.receiver.specs.Feed.{was_reset, FeedWhy};
+ghost use Rattle.receiver.specs.Feed.{FeedWhy};
 ghost use Rattle.receiver_words.specs.Readings.{readings_of};
-ghost use Rattle.sender.specs.Sender.{Sends, StartAnswer};
-ghost use Rattle.trial.specs.Trial.{trial_made, payload_of, user_cell, number_after, if_sent, Came, CellSent, CellWent};
+ghost use Rattle.trial.specs.Trial.{trial_made, payload_of, user_cell, number_after, if_sent, Came, CellSent, CellWent, Starts, F3Set, reset_trial};
 
 use crate::damage::Damage;
 use crate::ends::Ends;
@@ -93,18 +91,21 @@ impl Trial {
 
     // The sending end starts again at this phase. Refuses a phase of 0 or above 2^31 - 1.
     pub fn start(&mut self, phase: u32) -> Result<(), Refusal>
-        ensures answer { StartAnswer self.old.ends.sender phase result self.new.ends.sender }
-        ensures receiver { self.new.ends.receiver ≡ self.old.ends.receiver }
-        ensures number { self.new.number ≡ self.old.number }
+        ensures { Starts phase self.old result self.new }
     {
         self.ends.start(phase)
     }
 
+    // The payload of the F3 cells that go out from now on is 48 times this octet. It is not refused.
+    pub fn set_f3(&mut self, octet: u8) -> Result<(), Refusal>
+        ensures { MatchResult result (λ _. F3Set octet self.old self.new) (λ _. ⊥) }
+    {
+        self.ends.set_f3(&[octet; PAYLOAD_OCTETS])
+    }
+
     // The receiving end begins again.
     pub fn reset(&mut self)
-        ensures receiver { self.new.ends.receiver ≡ was_reset self.old.ends.receiver }
-        ensures sender { self.new.ends.sender ≡ self.old.ends.sender }
-        ensures number { self.new.number ≡ self.old.number }
+        ensures { self.new ≡ reset_trial self.old }
     {
         self.ends.reset();
     }

@@ -1,5 +1,5 @@
 -- Cells of a ring, counted one by one.
-use Rattle.std.proofs.Common.{◌≡◌, List, [], ◌∷◌, map, Option, sym, ap}
+use Rattle.std.proofs.Common.{◌≡◌, [], ◌∷◌, map, Option, sym, ap}
 use Rattle.ring.specs.Ring.{held}
 use Rattle.ring.specs.declared.ring.Ring.{Ring}
 use Rattle.ports.specs.Cell.{Cell}

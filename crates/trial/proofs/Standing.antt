@@ -1,18 +1,18 @@
 -- What each call on either end makes of the calls before it.
-use Rattle.std.proofs.Common.{◌≡◌, ℕ, List, [], ◌∷◌, Result, refl, sym, subst}
+use Rattle.std.proofs.Common.{◌≡◌, ℕ, List, Result, sym, subst}
 use Rattle.std.specs.List.{AllByRecursion}
 use Rattle.cell.specs.declared.header.Kind.{Kind}
 use Rattle.cell.specs.declared.refusal.Refusal.{Refusal}
 use Rattle.ports.specs.Cell.{Cell, User}
 use Rattle.ports.specs.Sink.{SinkState}
-use Rattle.receiver.specs.Feed.{Events, FeedAnswer, made, was_reset}
+use Rattle.receiver.specs.Feed.{Events, FeedAnswer, was_reset}
 use Rattle.receiver.specs.declared.receiver.Receiver.{Receiver}
-use Rattle.sender.specs.Sender.{SenderState, fresh, StartAnswer, SendAnswer}
+use Rattle.sender.specs.Sender.{SenderState, StartAnswer, SendAnswer}
 use Rattle.sender.specs.Told.{SendTells, F3Answer}
 use Rattle.line.specs.Receiving as receiving
 use Rattle.line.specs.Sending as sending
-use Rattle.line.specs.Theorem.{Received, Sent, LineTheorem}
-use Rattle.trial.specs.Ends.{SenderStands, ReceiverStands, Pair, made_pair, Stand}
+use Rattle.line.specs.Theorem.{LineTheorem}
+use Rattle.trial.specs.Ends.{SenderStands, ReceiverStands, made_pair, Stand}
 
 module _ (t : LineTheorem) where
   sent_by : {cs : List sending.Call} {s : SenderState} → sending.History cs s → SenderStands s

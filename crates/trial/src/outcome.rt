@@ -62,11 +62,7 @@ impl Trial {
 
     // So many cells are sent, and go over the line as they are sent.
     #[tactic(auto, using(crate::proofs::Rounds::passed_none, crate::proofs::Rounds::passed_more))]
-    fn pass(
-        &mut self,
-        cells: u32,
-        events: &mut Ring<'_, EventRecord>,
-    ) -> Result<Tally, Refusal>
+    fn pass(&mut self, cells: u32, events: &mut Ring<'_, EventRecord>) -> Result<Tally, Refusal>
         ensures { MatchResult result (λ counts. Passed cells self.old events.old counts self.new events.new) (λ _. ⊥) }
     {
         let mut counts = Tally::default();
@@ -78,11 +74,7 @@ impl Trial {
 
     // So many octets come that nobody sent, one to a feed.
     #[tactic(auto, using(crate::proofs::Rounds::noised_none, crate::proofs::Rounds::noised_more))]
-    fn noise(
-        &mut self,
-        octets: u32,
-        events: &mut Ring<'_, EventRecord>,
-    ) -> Result<Tally, Refusal>
+    fn noise(&mut self, octets: u32, events: &mut Ring<'_, EventRecord>) -> Result<Tally, Refusal>
         ensures { MatchResult result (λ counts. Noised octets self.old events.old counts self.new events.new) (λ _. ⊥) }
     {
         let mut counts = Tally::default();

@@ -24,6 +24,7 @@ const HEADER: Header = Header(0x0000_0640);
 
 // How many octets of a payload its cell's number takes, and what stands behind it.
 const NUMBER_OCTETS: usize = 4;
+
 const FILL: u8 = 0x55;
 
 #[derive(Drop)]

@@ -1,6 +1,6 @@
 use Rattle.std.proofs.lemmas.List.FromFn.{fill_by_all}
 use lib.Bits.{bit_xor}
-use Rattle.std.proofs.Common.{ℕ, ◌≡◌, ◌<◌, get_or, arith, rules}
+use Rattle.std.proofs.Common.{ℕ, ◌≡◌, get_or, rules}
 use Rattle.trial.specs.Damage.{turned}
 use Rattle.trial.proofs.damage.Damage.turned.Goals as goal
 

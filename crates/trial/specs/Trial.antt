@@ -21,8 +21,7 @@ use Rattle.ring.specs.declared.ring.Ring.{Ring}
 use Rattle.ports.specs.Cell.{Cell, header_octets}
 use Rattle.ports.specs.CellRing.{ring_cells, ring_state}
 use Rattle.ports.specs.declared.user_cell.UserCell.{UserCell}
-use Rattle.sender.specs.Sender.{Sends, StartAnswer}
-use Rattle.sender.specs.Told.{with_f3}
+use Rattle.sender.specs.Sender.{Sends, StartAnswer, with_f3}
 use Rattle.receiver.specs.Feed.{Feeds, events_of, was_reset}
 use Rattle.receiver.specs.declared.event.EventRecord.{EventRecord}
 use Rattle.trial.specs.Damage.{turned}

@@ -43,6 +43,8 @@ class Acquisition(NamedTuple):
     """Gathers the samples of agreeing headers until as many stand in a row as a phase needs."""
 
     row: Tuple[Tuple[int, ...], ...] = ()
+    # none is found yet
+    phase: Optional[int] = None
 
     @property
     def confidence(self) -> int:
@@ -121,6 +123,8 @@ class Readings(NamedTuple):
     headers: int
     descrambler: str
     confidence: int
+    # of the last cell whose header came, where one is known
+    phase: Optional[int]
     mode: str
     bits: int
     counters: Dict[str, int]
@@ -166,7 +170,8 @@ class Receiver:
 
     def readings(self) -> Readings:
         descrambler = type(self.descrambler).__name__
-        return Readings(*self.delineation(), descrambler, self.descrambler.confidence, self.mode, self.bit_count, dict(self.counters), self.f3_payload)
+        confidence, phase = self.descrambler.confidence, self.descrambler.phase
+        return Readings(*self.delineation(), descrambler, confidence, phase, self.mode, self.bit_count, dict(self.counters), self.f3_payload)
 
     def feed(self, octets: bytes, sink, events: Ring) -> int:
         """How many cells the sink took. Refuses no octets, and more than 4,096."""

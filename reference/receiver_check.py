@@ -56,7 +56,7 @@ def header_bit(cell: int) -> int:
 
 def lead_to_steady() -> None:
     (outcomes,) = ends("first_handed_up")
-    expect("fresh", outcomes[0].readings, (HUNT, 0, ACQUISITION, 0, CORRECTION, 0, FRESH, bytes(48)))
+    expect("fresh", outcomes[0].readings, (HUNT, 0, ACQUISITION, 0, None, CORRECTION, 0, FRESH, bytes(48)))
     wanted = [(PRESYNC, n, ACQUISITION, n + 1) for n in range(8)]
     wanted += [(SYNC, 0, ACQUISITION, c) for c in range(9, 16)] + [(SYNC, 0, VERIFICATION, c) for c in range(16, 24)] + [(SYNC, 0, STEADY, 24)] * 4
     expect("states of a clean stream", states(outcomes)[1:], wanted)
@@ -194,7 +194,7 @@ def feeds_and_resets() -> None:
         for before, after in zip(outcomes, outcomes[1:]):
             if after.answer == "reset":
                 readings = before.readings
-                expect("a reset", after, ("reset", [], [], (HUNT, 0, ACQUISITION, 0, CORRECTION) + readings[5:]))
+                expect("a reset", after, ("reset", [], [], (HUNT, 0, ACQUISITION, 0, None, CORRECTION) + readings[6:]))
     under_way = [outcomes[-1] for outcomes in ends("resets")[1:2]]
     expect("the cell under way at a reset", [outcome.readings.counters["mended"] for outcome in under_way], [1])
     modes = [before.readings.mode for outcomes in ends("resets") for before, after in zip(outcomes, outcomes[1:]) if after.answer == "reset"]

@@ -35,7 +35,8 @@ class Outcome(NamedTuple):
 
 
 def state(readings: Readings) -> str:
-    words = ["state", readings.delineation, readings.headers, readings.descrambler, readings.confidence, readings.mode, "bits", readings.bits]
+    phase = [] if readings.phase is None else ["phase", f"{readings.phase:08x}"]
+    words = ["state", readings.delineation, readings.headers, readings.descrambler, readings.confidence, *phase, readings.mode, "bits", readings.bits]
     for name, count in readings.counters.items():
         words += [name, count]
     return " ".join(str(word) for word in words + ["payload", readings.f3_payload.hex()])

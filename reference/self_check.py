@@ -9,7 +9,7 @@ from finder import CELLS, find_phase, sample_word, word_of_samples
 from generator import CELL_BITS, PHASE_BITS, forward, next_phase, phase_before, phase_bits
 from idle_cells import IDLE_CELL, line_cells
 from refusal import Refused
-from sender import F3, F3_PERIOD, USER, Sender
+from sender import Sender
 
 CHECK_OCTETS = {
     0x00000000: 0x55,
@@ -68,29 +68,6 @@ def idle_cells() -> None:
         expect(f"idle cell {number} decoded", decode_cell(line, phase), IDLE_CELL)
 
 
-def sent_stream() -> None:
-    """Cell number k is coded at the start's phase, moved on by 424 steps k times; every 432nd is an F3 cell, and users wait in order."""
-    start, cells = 0x3ECFEDE8, 2 * F3_PERIOD + 40
-    generated = forward(phase_bits(start), CELL_BITS * cells)
-    users = [bytes([0x01, 0x10, 0x41, 0x20]) + bytes([k % 256]) * PAYLOAD_OCTETS for k in range(F3_PERIOD)]
-    waiting, got = list(users), []
-    sender = Sender()
-    sender.start(start)
-    for k in range(cells):
-        # some calls are lent nothing
-        line, kind = sender.send(waiting if k % 7 else [])
-        phase = number_of(generated[CELL_BITS * k:CELL_BITS * k + PHASE_BITS])
-        cell = decode_cell(line, phase)
-        expect(f"sent cell {k}", code_cell(cell, phase), line)
-        expect(f"kind of cell {k}", kind == F3, k % F3_PERIOD == 0)
-        if kind == USER:
-            got.append(cell)
-        else:
-            header = "00000009" if kind == F3 else "00000001"
-            expect(f"{kind} cell {k}", cell, bytes.fromhex(header) + bytes([0x6A]) * PAYLOAD_OCTETS)
-    expect("users sent", (got, waiting), (users, []))
-
-
 def expected_cells(lent: List[bool], users: List[bytes]) -> List[Tuple[str, bytes]]:
     """Kind and cell of each send from a start on, where users wait and a source with all of them is lent to some sends: by places, not by steps."""
     fill = bytes([0x6A]) * PAYLOAD_OCTETS
@@ -109,7 +86,9 @@ def sends_as_expected(sender: Sender, what: str, start: int, lent: List[bool], u
     expected = expected_cells(lent, users)
     for k, (kind, cell) in enumerate(expected):
         phase = number_of(generated[CELL_BITS * k:CELL_BITS * k + PHASE_BITS])
-        expect(f"{what}, cell {k}", sender.send(waiting if lent[k] else []), (code_cell(cell, phase), kind))
+        line, sent_kind = sender.send(waiting if lent[k] else [])
+        expect(f"{what}, cell {k}", (line, sent_kind), (code_cell(cell, phase), kind))
+        expect(f"{what}, cell {k} decoded", decode_cell(line, phase), cell)
     sent = sum(kind == "user" for kind, _ in expected)
     expect(f"{what}, users left", waiting, users[sent:])
 
@@ -144,5 +123,4 @@ def run() -> None:
     worked_values()
     finder_undoes_sampling()
     idle_cells()
-    sent_stream()
     sent_streams()

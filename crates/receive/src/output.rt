@@ -1,9 +1,8 @@
 // What goes out after each feed: the cells and the events that it brought.
-ghost use Rattle.std.specs.Prelude.{OnOk};
-ghost use Rattle.std.specs.Io.KnownBytes.{Appends};
+ghost use Rattle.ring.specs.Ring.{held};
 ghost use Rattle.ports.specs.Cell.{octets};
 ghost use Rattle.ports.specs.UserCell.{cell_of};
-ghost use Rattle.receive.specs.Output.{written, Emptied};
+ghost use Rattle.receive.specs.Output.{written, cells_written, events_listed, Emptied, Wrote};
 
 use cell::sizes::HEADER_OCTETS;
 use ports::user_cell::UserCell;
@@ -13,12 +12,14 @@ use std::io;
 use std::io::Write;
 
 // Writes all cells of a ring, the oldest first, whole or only their payloads. None is left.
+#[tactic(auto, using(crate::proofs::Written::nothing_written, crate::proofs::Written::cell_written, crate::proofs::Written::all_cells_written))]
 pub fn write_cells<W: Write>(
     cells: &mut Ring<'_, UserCell>,
     payloads: bool,
     out: &mut W,
 ) -> io::Result<()>
-    ensures { Emptied cells.old result cells.new }
+    ensures emptied { Emptied cells.old result cells.new }
+    ensures wrote { Wrote (W.contents out.old) result (W.contents out.new) (cells_written payloads (held cells.old)) }
 {
     while let Ok(cell) = cells.pop() {
         write_cell(cell, payloads, out)?;
@@ -27,12 +28,14 @@ pub fn write_cells<W: Write>(
 }
 
 // Lists all events of a ring, the oldest first, or lets them go. None is left.
+#[tactic(auto, using(crate::proofs::Written::nothing_written, crate::proofs::Written::event_listed, crate::proofs::Written::event_let_go, crate::proofs::Written::all_events_listed))]
 pub fn list_events<W: Write>(
     events: &mut Ring<'_, EventRecord>,
     listed: bool,
     out: &mut W,
 ) -> io::Result<()>
-    ensures { Emptied events.old result events.new }
+    ensures emptied { Emptied events.old result events.new }
+    ensures wrote { Wrote (W.contents out.old) result (W.contents out.new) (events_listed listed (held events.old)) }
 {
     while let Ok(event) = events.pop() {
         if listed {
@@ -44,7 +47,7 @@ pub fn list_events<W: Write>(
 
 // Writes a cell, whole or only its payload.
 fn write_cell<W: Write>(cell: UserCell, payloads: bool, out: &mut W) -> io::Result<()>
-    ensures { OnOk result (Appends (W.contents out.old) (W.contents out.new) (written payloads (octets (cell_of cell)))) }
+    ensures { Wrote (W.contents out.old) result (W.contents out.new) (written payloads (octets (cell_of cell))) }
 {
     let octets = cell.octets();
     if payloads {

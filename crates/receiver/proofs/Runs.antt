@@ -82,20 +82,30 @@ bits_of_append : (xs ys : List ℕ) → bits_of (xs ++ ys) ≡ bits_of xs ++ bit
 bits_of_append [] ys = refl
 bits_of_append (x ∷ xs) ys = ap (λ l. octet_bits x ++ l) (bits_of_append xs ys) ∙ sym (append_assoc (octet_bits x) (bits_of xs) (bits_of ys))
 
+-- the bits of the first i octets: shut, so that search goes octet by octet
+unfoldable pub first_bits : List ℕ → ℕ → List Bool
+first_bits os i = bits_of (take i os)
+
+pub works_no_octet : (os : List ℕ) (r : Receiver) (k : SinkState) (q : Events) → Works r k q (first_bits os 0) 0 r k q
+unfolding first_bits
+works_no_octet os r k q = works_none r k q
+
 -- one octet more
 bits_more : (os : List ℕ) (i : ℕ) → i < length os → bits_of (take (i + 1) os) ≡ bits_of (take i os) ++ octet_bits (get_or os i 0)
 bits_more os i h =
     ap bits_of (take_more os i 0 h) ∙ bits_of_append (take i os) (get_or os i 0 ∷ []) ∙ ap (λ l. bits_of (take i os) ++ l) (append-nil (octet_bits (get_or os i 0)))
 
 -- a run over one octet more
-module _ {r r' r'' : Receiver} {k k' k'' : SinkState} {q q' q'' : Events} {n m : ℕ} (os : List ℕ) (i : ℕ) where
-  pub works_octet : i < length os → Works r k q (bits_of (take i os)) n r' k' q' → Works r' k' q' (octet_bits (get_or os i 0)) m r'' k'' q''
-      → Works r k q (bits_of (take (i + 1) os)) (n + m) r'' k'' q''
-  works_octet h a b = rw (bits_more os i h) (works_then a b)
+module _ {r r' r'' : Receiver} {k k' k'' : SinkState} {q q' q'' : Events} {n m : ℕ} (os : List ℕ) (i o : ℕ) where
+  pub works_octet : i < length os → o ≡ get_or os i 0 → Works r k q (first_bits os i) n r' k' q' → Works r' k' q' (octet_bits o) m r'' k'' q''
+      → Works r k q (first_bits os (i + 1)) (n + m) r'' k'' q''
+  unfolding first_bits
+  works_octet h is a b = rw (bits_more os i h) (works_then a (works_same (ap octet_bits is) b))
 
 -- a feed, once its last octet is worked
 pub feeds : (os : List ℕ) (i : ℕ) (r r' : Receiver) (k k' : SinkState) (q q' : Events) (n : ℕ) → nat_eq (length os) 0 ≡ false → length os ≤ 4096 → length os ≤ i
-    → Works r k q (bits_of (take i os)) n r' k' q' → Feeds os r k q n r' k' q'
+    → Works r k q (first_bits os i) n r' k' q' → Feeds os r k q n r' k' q'
+unfolding first_bits
 feeds os i r r' k k' q q' n some few all h =
     record {
       some = positive (length os) some;
@@ -108,4 +118,4 @@ feeds os i r r' k k' q q' n some few all h =
     positive (suc n) z = omega arith
 
 pub feed_laws : FeedLaws
-feed_laws = record { joined = λ r r' r'' k k' k'' q q' q'' bs cs n m a b. works_then a b; bits = bits_of_append }
+feed_laws = record { tracked = after-append; joined = λ r r' r'' k k' k'' q q' q'' bs cs n m a b. works_then a b; bits = bits_of_append }

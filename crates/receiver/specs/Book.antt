@@ -5,13 +5,20 @@
 --   blank               the book as it is made: all zero
 --   bump n              a counter, one on: it stops at 4,294,967,295
 --   bits_on n           the bit count, one on: it stops at 2^63 - 1
+--   bit_counted k       the book k, with one bit more seen
+--   counting k c        the book k, with the counters c
+--   took_one c          the counters c, with one cell more that a sink took; so the others, each by its name
+--   f3_stored p k       the book k, with one F3 cell more, whose payload is p
+--   marked o k          the book k, with one header more mended or discarded, as o says, if it says so
+--   lost k              the book k, with one event more lost
+--   booked k g          what is written down, g, with the book k in place of its own
 --   posted g e          the event e goes into the ring behind all others; where no place is free it is lost and counted
 --   posted_if g o       the same of the event of o, if there is one
---   marked g o          the counters of mended and discarded headers
---   header_noted g e    the counter and the events of a header, in the order of the layers
+--   header_noted e g    the counter and the events e of a header, in the order of the layers
 --   replied r g         what the sink answered for a user cell: counted and, where it is a refusal, told
 --   cell_noted k p r g  a kept cell of the kind k with the payload p: idle cells vanish, the payload of F3 cells is stored
---   noted s b r g       all that is written down of the bit b, where the sink replied r
+--   brought o p r g     what a bit brought, o: nothing, a header, or a kept cell with the payload p, of which the sink replied r
+--   noted s b r g       all that is written down of the bit b after the tracker s, where the sink replied r
 --   log_run s g ms      all that is written down of the moments ms
 use Rattle.std.specs.Prelude.{ℕ, ◌+◌, ◌-◌, ◌^◌, min, Bool, cond, List, [], ◌∷◌, ◌++◌, length, replicate, Some, None, Option, option_map, ⊤, Ok, Err, Result, nat_lt}
 use Rattle.cell.specs.Header.{kind_of}

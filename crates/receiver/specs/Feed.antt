@@ -11,7 +11,7 @@
 --   FeedWhy os e    why a feed of the octets os is refused with e
 --   FeedAnswer      what a feed answers and leaves, also where it is refused
 --   Untouched       a refused call leaves the very same sink and ring
---   FeedLaws        runs of bits join
+--   FeedLaws        runs of bits join: on a receiving end while the same sink and ring are lent on, and on its tracker whatever is lent
 use Rattle.std.specs.Prelude.{◌≡◌, ℕ, ◌+◌, ◌<◌, ◌≤◌, Bool, List, ◌++◌, length, Result, MatchResult, OnErr}
 use Rattle.cell.specs.Refusal.{number_of}
 use Rattle.cell.specs.declared.refusal.Refusal.{Refusal}
@@ -20,6 +20,7 @@ use Rattle.ports.specs.Sink.{SinkState}
 use Rattle.ring.specs.declared.ring.Ring.{Ring}
 use Rattle.ring.specs.Ring.{held, places}
 use Rattle.tracker.specs.Tracker.{start}
+use Rattle.tracker.specs.declared.tracker.Tracker.{Tracker}
 use Rattle.receiver.specs.declared.event.EventRecord.{EventRecord}
 use Rattle.receiver.specs.declared.receiver.Receiver.{Receiver}
 use Rattle.receiver.specs.Book.{Log, blank, log_run}
@@ -46,7 +47,7 @@ pub record Works (r : Receiver) (k : SinkState) (q : Events) (bs : List Bool) (n
   pub moments : List Moment
   -- each bit is worked, in order
   pub fed : bits moments ≡ bs
-  -- each cell that a bit completes is handed up to the sink
+  -- each user cell that was kept is handed up to the sink, with its last bit
   pub along : Along r.tracker k moments k'
   pub tracker : r'.tracker ≡ after r.tracker bs
   pub written : log r' q' ≡ log_run r.tracker (log r q) moments
@@ -79,7 +80,10 @@ Untouched answer sink sink' ring ring' = OnErr answer ((sink' ≡ sink) × (ring
 -- ---- what holds of runs
 
 pub record FeedLaws : Type 0 where
-  -- one run after another is one run over both: however the line's octets are cut into feeds, the line is tracked the same
+  -- the tracker after one run and then another is that after one run over both, whatever is lent to either: how the line's octets are cut
+  -- into feeds makes no difference to hunting, phase and mending, nor to which cells are offered
+  pub tracked : (s : Tracker) (bs cs : List Bool) → after s (bs ++ cs) ≡ after (after s bs) cs
+  -- one run after another is one run over both, while the same sink and ring are lent on, with nothing taken out or put in between
   pub joined : (r r' r'' : Receiver) (k k' k'' : SinkState) (q q' q'' : Events) (bs cs : List Bool) (n m : ℕ)
       → Works r k q bs n r' k' q' → Works r' k' q' cs m r'' k'' q'' → Works r k q (bs ++ cs) (n + m) r'' k'' q''
   -- the bits of octets in a row are those of the first and then those of the others

@@ -103,7 +103,7 @@ impl Receiver {
     }
 
     // Takes 1 to 4,096 octets of the line, and answers how many cells the sink took. Refuses no octets, and more than 4,096.
-    #[tactic(auto, using(crate::proofs::Runs::works_none, crate::proofs::Runs::feeds))]
+    #[tactic(auto, using(crate::proofs::Runs::works_no_octet, crate::proofs::Runs::works_octet, crate::proofs::Runs::feeds))]
     pub fn feed<S: Sink>(
         &mut self,
         octets: &[u8],

@@ -35,7 +35,8 @@ impl fmt::Display for End {
     }
 }
 
-// A word for each part of the state, with its count where it has one: the vectors tell less of a state than its own Display does.
+// A word for each part of the state, with its count where it has one, and the descrambler's phase where one is known: the vectors have
+// fewer words for a state than its own Display.
 fn write_state<W: fmt::Write>(f: &mut fmt::Formatter<W>, state: State) -> fmt::Result {
     match state.boundary {
         Boundary::Hunt => write!(f, "state HUNT 0")?,
@@ -44,8 +45,12 @@ fn write_state<W: fmt::Write>(f: &mut fmt::Formatter<W>, state: State) -> fmt::R
     }
     match state.descrambler {
         Descrambler::Acquisition(confidence) => write!(f, " Acquisition {confidence}")?,
-        Descrambler::Verification(confidence, _) => write!(f, " Verification {confidence}")?,
-        Descrambler::Steady(confidence, _) => write!(f, " Steady {confidence}")?,
+        Descrambler::Verification(confidence, phase) => {
+            write!(f, " Verification {confidence} phase {phase:08x}")?
+        }
+        Descrambler::Steady(confidence, phase) => {
+            write!(f, " Steady {confidence} phase {phase:08x}")?
+        }
     }
     write!(f, " {}", state.mode)
 }

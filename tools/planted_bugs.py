@@ -1,0 +1,210 @@
+#!/usr/bin/env python3
+"""Plants small bugs in a crate, one at a time, and tells which of them its contracts let through. Run at the top of the repository, once `rt check` passes:
+
+    python3 tools/planted_bugs.py CRATE [--count N] [--seed S] [--report FILE] [--edits FOLDER]
+
+It chooses bugs in src/ (operators, numbers, cases of an enum, swapped arguments, dropped statements), at most two on a line and the files in turn, writes each as a
+must-fail edit in a copy of the repository in a temporary folder, and runs `rt must-fail CRATE` there: nothing changes here. Contracts, comments, texts and tests get none,
+and neither does a line that stands more than once in its file, since an edit could not name it. With --edits it tries the edits of a folder instead.
+
+A bug that does not compile is not counted, and another takes its place. One that survived is proved still: either it makes no difference, or the contract is too weak, so
+read each. RT_JOBS says how many processors are used (2 where it is not set). The status is 0 whatever survived, 2 where the crate could not be tried.
+"""
+
+import argparse
+import collections
+import itertools
+import os
+import pathlib
+import random
+import re
+import shutil
+import subprocess
+import sys
+import tempfile
+
+OPERATORS = [
+    (" < ", " <= "), (" <= ", " < "), (" > ", " >= "), (" >= ", " > "), (" == ", " != "), (" != ", " == "), (" + ", " - "), (" - ", " + "),
+    (" * ", " + "), (" / ", " % "), (" % ", " / "), (" ^ ", " | "), (" & ", " | "), (" | ", " & "), (" << ", " >> "), (" >> ", " << "),
+    (" && ", " || "), (" || ", " && "), (" += ", " -= "), (" -= ", " += "), (" ^= ", " |= "), ("..=", ".."), ("true", "false"), ("false", "true"),
+    (".min(", ".max("), (".max(", ".min("), (".is_some()", ".is_none()"), (".is_none()", ".is_some()"), ("if !", "if "), ("saturating_add", "wrapping_add"),
+]  # fmt: skip
+NUMBER = re.compile(r"(?<!\w)(?<![\w)\]]\.)(0x[0-9a-fA-F_]+|\d[\d_]*)((?:u|i)(?:8|16|32|64|128|size))?(?!\w)(?!\.\w)")
+CASE = re.compile(r"\b([A-Z]\w*)::([A-Z]\w*)\b(?!\s*\{)")
+CALL = re.compile(r"\b(\w+)\(((?:&(?:mut )?)?[a-z_][\w.]*), ((?:&(?:mut )?)?[a-z_][\w.]*)\)")
+NO_CODE = re.compile(r"(pub(\([a-z]+\))? )?(use|mod|fn|impl|struct|enum|trait|type|ghost|where)\b|#|//|[\]})]+[;,]?$")
+KEEPS = re.compile(r"(pub(\([a-z]+\))? )?(let|return|const|static|break|continue)\b|[})]")
+TABLE_ROW = re.compile(r"\s*[\w:(), ]+,")
+VERDICT = re.compile(r"must-fail [^/]+/(\S+)\.edit: (refused|NOT REFUSED|BAD EDIT|NOT TRIED)(.*)")
+
+# A bug: the file below the crate's folder, the line's number, the line before and after, and what was done.
+Bug = collections.namedtuple("Bug", "file line old new what")
+
+
+def cases(crates):
+    """The cases of each enum of the repository, by the enum's name: those without data and those with one value, apart."""
+    found = collections.defaultdict(lambda: (set(), set()))
+    for path in crates.glob("*/src/**/*.rt"):
+        text = re.sub(r"//.*", "", path.read_text(encoding="utf-8"))
+        for name, body in re.findall(r"\benum (\w+)[^{]*\{((?:[^{}]|\{[^{}]*\})*)\}", text):
+            for case, data in re.findall(r"^\s*([A-Z]\w*)(\([^,)]*\))?", body, re.M):
+                found[name][bool(data)].add(case)
+    return found
+
+
+def code_lines(text):
+    """The numbers and texts of the lines with code that runs: no clauses, ghost items, tests, attributes or heads of items."""
+    clause = test = depth = 0
+    for number, line in enumerate(text.split("\n"), 1):
+        bare = blanked(line)
+        word = bare.strip()
+        braces = bare.count("{") - bare.count("}")
+        if test or re.match(r"#\[(cfg\(test\)|test)\]", word):
+            test, depth = (test or 1, depth + braces)
+            test = 0 if depth <= 0 and braces < 0 else test
+        elif clause > 0 or re.match(r"(ensures|requires|ghost|law)\b", word):
+            clause += braces
+        elif word and not NO_CODE.match(word):
+            yield number, line
+
+
+def blanked(line):
+    """The line with texts and its comment as blanks, so that what is found in it stands at the same place in the line."""
+    line = re.sub(r'"(?:[^"\\]|\\.)*"', lambda text: '"' + " " * (len(text[0]) - 2) + '"', line)
+    return re.sub(r"//.*", lambda text: " " * len(text[0]), line)
+
+
+def changes(line, cases_of):
+    """Each change of a line, with what is done."""
+    bare = blanked(line).rstrip()
+
+    def put(start, end, new):
+        return line[:start] + new + line[end : len(bare)]
+
+    for old, new in OPERATORS:
+        for at in (it.start() for it in re.finditer(re.escape(old), bare)):
+            yield put(at, at + len(old), new), f"{old.strip()} to {new.strip()}"
+    for it in NUMBER.finditer(bare):
+        value = int(it[1].replace("_", ""), 0)
+        for other in [value + 1, value - 1] if value else [1]:
+            new = (hex(other) if it[1].startswith("0x") else str(other)) + (it[2] or "")
+            yield put(*it.span(), new), f"{it[0]} to {new}"
+    for it in CASE.finditer(bare):
+        for group in cases_of.get(it[1], ()):
+            for case in sorted(group - {it[2]}) if it[2] in group else ():
+                yield put(*it.span(2), case), f"{it[0]} to {case}"
+    for it in CALL.finditer(bare):
+        if it[2] != it[3]:
+            yield put(*it.span(), f"{it[1]}({it[3]}, {it[2]})"), f"the arguments of {it[1]} swapped"
+    word = bare.strip()
+    if word.endswith(";") and not KEEPS.match(word) and word.count("(") == word.count(")"):
+        yield "", "dropped"
+
+
+def bugs_of(folder, cases_of):
+    """The bugs of a crate by file, and how many lines were left out since no edit could name them."""
+    bugs, left_out = {}, 0
+    for path in sorted(folder.glob("src/**/*.rt")):
+        text, rows = path.read_text(encoding="utf-8"), 0
+        bugs[path] = []
+        for number, line in code_lines(text):
+            is_row = bool(TABLE_ROW.fullmatch(line))
+            rows += is_row
+            if is_row and rows > 7 and rows % 20:
+                # one row in twenty stands for a long table
+                continue
+            found = [Bug(path.relative_to(folder), number, line, new, what) for new, what in changes(line, cases_of)]
+            if found and text.count(line) > 1:
+                left_out += 1
+            else:
+                bugs[path] += found
+    return bugs, left_out
+
+
+def chosen(bugs, seed):
+    """The bugs in the order in which they are tried: the files in turn, at most two of a line."""
+    chance, used = random.Random(seed), collections.Counter()
+    piles = [chance.sample(pile, len(pile)) for pile in bugs.values() if pile]
+    chance.shuffle(piles)
+    while piles:
+        for pile in piles:
+            bug = pile.pop()
+            used[bug.file, bug.line] += 1
+            if used[bug.file, bug.line] <= 2:
+                yield bug
+        piles = [pile for pile in piles if pile]
+
+
+def tried(room, crate, edits):
+    """Tries edits, given by name, in the copy: what each came to, and where it was refused."""
+    place = room / "crates" / crate / "must-fail"
+    shutil.rmtree(place, ignore_errors=True)
+    place.mkdir()
+    for name, text in edits.items():
+        (place / f"{name}.edit").write_text(text, encoding="utf-8")
+    ran = subprocess.run(["rt", "must-fail", crate], cwd=room, stdout=subprocess.PIPE, stderr=subprocess.STDOUT, text=True, env={"RT_JOBS": "2", **os.environ}, check=False)
+    said = {it[1]: (it[2], it[3].lstrip(": ")) for it in VERDICT.finditer(ran.stdout)}
+    if edits.keys() - said.keys():
+        print(ran.stdout, f"rt must-fail told nothing of {', '.join(sorted(edits.keys() - said.keys()))}", file=sys.stderr)
+        sys.exit(2)
+    return said
+
+
+def edit_text(bug):
+    return f"file: {bug.file}\nold: {bug.old}\nnew: {bug.new}\n"
+
+
+def read_edit(path):
+    """A bug as an edit that was written by hand has it, by its first pair."""
+    text = path.read_text(encoding="utf-8")
+    part = {key: it.group(1) if (it := re.search(rf"^{key}: ?(.*)$", text, re.M)) else "" for key in ("file", "old", "new")}
+    return Bug(part["file"], 0, part["old"], part["new"], path.stem)
+
+
+def main():
+    ask = argparse.ArgumentParser(description=__doc__, formatter_class=argparse.RawDescriptionHelpFormatter)
+    ask.add_argument("crate")
+    ask.add_argument("--count", type=int, default=20, help="how many bugs that compile are tried, at least")
+    ask.add_argument("--seed", type=int, default=1)
+    ask.add_argument("--report", help="a file to which all is written too, with every refusal")
+    ask.add_argument("--edits", help="a folder of edits to try instead")
+    given = ask.parse_args()
+    folder = pathlib.Path("crates") / given.crate
+    if not (folder / "src").is_dir():
+        ask.error(f"there is no folder {folder}/src here")
+    if given.edits:
+        paths = sorted(pathlib.Path(given.edits).glob("*.edit"))
+        planned, texts, head = iter([(path.stem, read_edit(path)) for path in paths]), {path.stem: path.read_text(encoding="utf-8") for path in paths}, ""
+    else:
+        bugs, left_out = bugs_of(folder, cases(folder.parent))
+        head = f"{given.crate}: {sum(map(len, bugs.values()))} bugs possible, and {left_out} lines left out that stand more than once"
+        planned, texts = ((f"planted_{number:03}", bug) for number, bug in enumerate(chosen(bugs, given.seed), 1)), {}
+    counts, rows = collections.Counter(), []
+    with tempfile.TemporaryDirectory(prefix="planted-bugs-") as top:
+        room = pathlib.Path(top)
+        shutil.copytree("crates", room / "crates", ignore=shutil.ignore_patterns("out", "must-fail"))
+        shutil.copy("crates.txt", room)
+        while True:
+            judged = counts["refused"] + counts["NOT REFUSED"]
+            wanted = len(texts) if given.edits else given.count - judged
+            batch = dict(itertools.islice(planned, max(wanted, 4) if wanted > 0 else 0))
+            if not batch:
+                break
+            for name, (verdict, why) in tried(room, given.crate, {name: texts.get(name) or edit_text(bug) for name, bug in batch.items()}).items():
+                counts[verdict] += 1
+                counts["by a limit"] += "only by a limit" in why
+                rows.append((verdict, name, batch[name], why))
+    last = (
+        f"{given.crate}: {counts['refused'] + counts['NOT REFUSED']} tried, {counts['refused']} refused ({counts['by a limit']} of them by a limit), "
+        f"{counts['NOT REFUSED']} survived; {counts['BAD EDIT']} did not compile, {counts['NOT TRIED']} gave no answer"
+    )
+    words = {"refused": "refused", "NOT REFUSED": "SURVIVED", "BAD EDIT": "did not compile", "NOT TRIED": "NO ANSWER"}
+    told = [(verdict, f"{words[verdict]} {name} {bug.file}:{bug.line}: {bug.what}\n    old: {bug.old.strip()}\n    new: {bug.new.strip()}", why) for verdict, name, bug, why in rows]
+    for line in [head, *(text for verdict, text, _ in told if verdict in ("NOT REFUSED", "NOT TRIED")), last]:
+        print(line)
+    if given.report:
+        pathlib.Path(given.report).write_text("\n".join([head, *(f"{text}\n    {why}" for _, text, why in told), last, ""]), encoding="utf-8")
+
+
+if __name__ == "__main__":
+    main()

@@ -35,7 +35,9 @@ CALL = re.compile(r"\b(\w+)\(((?:&(?:mut )?)?[a-z_][\w.]*), ((?:&(?:mut )?)?[a-z
 NO_CODE = re.compile(r"(pub(\([a-z]+\))? )?(use|mod|fn|impl|struct|enum|trait|type|ghost|where)\b|#|//|[\]})]+[;,]?$")
 KEEPS = re.compile(r"(pub(\([a-z]+\))? )?(let|return|const|static|break|continue)\b|[})]")
 TABLE_ROW = re.compile(r"\s*[\w:(), ]+,")
-VERDICT = re.compile(r"must-fail [^/]+/(\S+)\.edit: (refused|NOT REFUSED|BAD EDIT|NOT TRIED)(.*)")
+VERDICT = re.compile(r"must-fail [^/]+/(\S+)\.edit: (refused|NOT REFUSED|BAD EDIT|NOT TRIED)(?:, as it must be)?(.*)")
+# Refusals that say less of the contract, by what rt says of them.
+LESS = {"only by a limit": "by a limit of the prover", "only because a proof file": "in a proof file alone"}
 
 # A bug: the file below the crate's folder, the line's number, the line before and after, and what was done.
 Bug = collections.namedtuple("Bug", "file line old new what")
@@ -143,7 +145,7 @@ def tried(room, crate, edits):
     for name, text in edits.items():
         (place / f"{name}.edit").write_text(text, encoding="utf-8")
     ran = subprocess.run(["rt", "must-fail", crate], cwd=room, stdout=subprocess.PIPE, stderr=subprocess.STDOUT, text=True, env={"RT_JOBS": "2", **os.environ}, check=False)
-    said = {it[1]: (it[2], it[3].lstrip(": ")) for it in VERDICT.finditer(ran.stdout)}
+    said = {it[1]: (it[2], it[3].lstrip(": ") or "(no place is told)") for it in VERDICT.finditer(ran.stdout)}
     if edits.keys() - said.keys():
         print(ran.stdout, f"rt must-fail told nothing of {', '.join(sorted(edits.keys() - said.keys()))}", file=sys.stderr)
         sys.exit(2)
@@ -192,10 +194,11 @@ def main():
                 break
             for name, (verdict, why) in tried(room, given.crate, {name: texts.get(name) or edit_text(bug) for name, bug in batch.items()}).items():
                 counts[verdict] += 1
-                counts["by a limit"] += "only by a limit" in why
+                counts.update(words for sign, words in LESS.items() if sign in why)
                 rows.append((verdict, name, batch[name], why))
+    less = "".join(f" ({counts[words]} {words})" for words in LESS.values() if counts[words])
     last = (
-        f"{given.crate}: {counts['refused'] + counts['NOT REFUSED']} tried, {counts['refused']} refused ({counts['by a limit']} of them by a limit), "
+        f"{given.crate}: {counts['refused'] + counts['NOT REFUSED']} tried, {counts['refused']} refused{less}, "
         f"{counts['NOT REFUSED']} survived; {counts['BAD EDIT']} did not compile, {counts['NOT TRIED']} gave no answer"
     )
     words = {"refused": "refused", "NOT REFUSED": "SURVIVED", "BAD EDIT": "did not compile", "NOT TRIED": "NO ANSWER"}

@@ -8,7 +8,7 @@ must-fail edit in a copy of the repository in a temporary folder, and runs `rt m
 and neither does a line that stands more than once in its file, since an edit could not name it. With --edits it tries the edits of a folder instead.
 
 A bug that does not compile is not counted, and another takes its place. One that survived is proved still: either it makes no difference, or the contract is too weak, so
-read each. RT_JOBS says how many processors are used (2 where it is not set). The status is 0 whatever survived, 2 where the crate could not be tried.
+read each. RT_JOBS says how many processors are used (2 where it is not set). The status is 0 whatever survived, and 2 where the crate could not be tried.
 """
 
 import argparse
@@ -36,11 +36,13 @@ NO_CODE = re.compile(r"(pub(\([a-z]+\))? )?(use|mod|fn|impl|struct|enum|trait|ty
 KEEPS = re.compile(r"(pub(\([a-z]+\))? )?(let|return|const|static|break|continue)\b|[})]")
 TABLE_ROW = re.compile(r"\s*[\w:(), ]+,")
 VERDICT = re.compile(r"must-fail [^/]+/(\S+)\.edit: (refused|NOT REFUSED|BAD EDIT|NOT TRIED)(?:, as it must be)?(.*)")
+# What is said of a bug for each verdict of rt.
+WORDS = {"refused": "refused", "NOT REFUSED": "SURVIVED", "BAD EDIT": "did not compile", "NOT TRIED": "NO ANSWER"}
 # Refusals that say less of the contract, by what rt says of them.
 LESS = {"only by a limit": "by a limit of the prover", "only because a proof file": "in a proof file alone"}
 
-# A bug: the file below the crate's folder, the line's number, the line before and after, and what was done.
-Bug = collections.namedtuple("Bug", "file line old new what")
+# A bug: where it is and what it does, the place that two bugs may share, and its edit.
+Bug = collections.namedtuple("Bug", "what place edit")
 
 
 def cases(crates):
@@ -54,6 +56,12 @@ def cases(crates):
     return found
 
 
+def blanked(line):
+    """The line with texts and its comment as blanks, so that what is found in it stands at the same place in the line."""
+    line = re.sub(r'"(?:[^"\\]|\\.)*"', lambda text: '"' + " " * (len(text[0]) - 2) + '"', line)
+    return re.sub(r"//.*", lambda text: " " * len(text[0]), line)
+
+
 def code_lines(text):
     """The numbers and texts of the lines with code that runs: no clauses, ghost items, tests, attributes or heads of items."""
     clause = test = depth = 0
@@ -62,18 +70,12 @@ def code_lines(text):
         word = bare.strip()
         braces = bare.count("{") - bare.count("}")
         if test or re.match(r"#\[(cfg\(test\)|test)\]", word):
-            test, depth = (test or 1, depth + braces)
-            test = 0 if depth <= 0 and braces < 0 else test
+            depth += braces
+            test = depth > 0 or braces >= 0
         elif clause > 0 or re.match(r"(ensures|requires|ghost|law)\b", word):
             clause += braces
         elif word and not NO_CODE.match(word):
             yield number, line
-
-
-def blanked(line):
-    """The line with texts and its comment as blanks, so that what is found in it stands at the same place in the line."""
-    line = re.sub(r'"(?:[^"\\]|\\.)*"', lambda text: '"' + " " * (len(text[0]) - 2) + '"', line)
-    return re.sub(r"//.*", lambda text: " " * len(text[0]), line)
 
 
 def changes(line, cases_of):
@@ -84,8 +86,8 @@ def changes(line, cases_of):
         return line[:start] + new + line[end : len(bare)]
 
     for old, new in OPERATORS:
-        for at in (it.start() for it in re.finditer(re.escape(old), bare)):
-            yield put(at, at + len(old), new), f"{old.strip()} to {new.strip()}"
+        for it in re.finditer(re.escape(old), bare):
+            yield put(*it.span(), new), f"{old.strip()} to {new.strip()}"
     for it in NUMBER.finditer(bare):
         value = int(it[1].replace("_", ""), 0)
         for other in [value + 1, value - 1] if value else [1]:
@@ -104,63 +106,68 @@ def changes(line, cases_of):
 
 
 def bugs_of(folder, cases_of):
-    """The bugs of a crate by file, and how many lines were left out since no edit could name them."""
-    bugs, left_out = {}, 0
+    """The bugs of a crate, a list for each file, and how many lines were left out since no edit could name them."""
+    bugs, left_out = [], 0
     for path in sorted(folder.glob("src/**/*.rt")):
-        text, rows = path.read_text(encoding="utf-8"), 0
-        bugs[path] = []
+        text, rows, name = path.read_text(encoding="utf-8"), 0, path.relative_to(folder)
+        bugs.append([])
         for number, line in code_lines(text):
             is_row = bool(TABLE_ROW.fullmatch(line))
             rows += is_row
             if is_row and rows > 7 and rows % 20:
                 # one row in twenty stands for a long table
                 continue
-            found = [Bug(path.relative_to(folder), number, line, new, what) for new, what in changes(line, cases_of)]
+            place = f"{name}:{number}"
+            found = [Bug(f"{place}: {what}", place, f"file: {name}\nold: {line}\nnew: {new}\n") for new, what in changes(line, cases_of)]
             if found and text.count(line) > 1:
                 left_out += 1
             else:
-                bugs[path] += found
+                bugs[-1] += found
     return bugs, left_out
 
 
 def chosen(bugs, seed):
     """The bugs in the order in which they are tried: the files in turn, at most two of a line."""
     chance, used = random.Random(seed), collections.Counter()
-    piles = [chance.sample(pile, len(pile)) for pile in bugs.values() if pile]
+    piles = [chance.sample(pile, len(pile)) for pile in bugs if pile]
     chance.shuffle(piles)
     while piles:
         for pile in piles:
             bug = pile.pop()
-            used[bug.file, bug.line] += 1
-            if used[bug.file, bug.line] <= 2:
+            used[bug.place] += 1
+            if used[bug.place] <= 2:
                 yield bug
         piles = [pile for pile in piles if pile]
 
 
-def tried(room, crate, edits):
-    """Tries edits, given by name, in the copy: what each came to, and where it was refused."""
+def tried(room, crate, batch):
+    """Tries bugs, by the names of their edits, in the copy: of each the verdict and where it was refused."""
     place = room / "crates" / crate / "must-fail"
     shutil.rmtree(place, ignore_errors=True)
     place.mkdir()
-    for name, text in edits.items():
-        (place / f"{name}.edit").write_text(text, encoding="utf-8")
-    ran = subprocess.run(["rt", "must-fail", crate], cwd=room, stdout=subprocess.PIPE, stderr=subprocess.STDOUT, text=True, env={"RT_JOBS": "2", **os.environ}, check=False)
-    said = {it[1]: (it[2], it[3].lstrip(": ") or "(no place is told)") for it in VERDICT.finditer(ran.stdout)}
-    if edits.keys() - said.keys():
-        print(ran.stdout, f"rt must-fail told nothing of {', '.join(sorted(edits.keys() - said.keys()))}", file=sys.stderr)
+    for name, bug in batch.items():
+        (place / f"{name}.edit").write_text(bug.edit, encoding="utf-8")
+    jobs = {"RT_JOBS": "2", **os.environ}
+    ran = subprocess.run(["rt", "must-fail", crate], cwd=room, stdout=subprocess.PIPE, stderr=subprocess.STDOUT, text=True, env=jobs, check=False)
+    said = {it[1]: (it[2], it[3].lstrip(": ")) for it in VERDICT.finditer(ran.stdout)}
+    if batch.keys() - said.keys():
+        print(ran.stdout, f"rt must-fail told nothing of {', '.join(sorted(batch.keys() - said.keys()))}", file=sys.stderr)
         sys.exit(2)
     return said
 
 
-def edit_text(bug):
-    return f"file: {bug.file}\nold: {bug.old}\nnew: {bug.new}\n"
-
-
-def read_edit(path):
-    """A bug as an edit that was written by hand has it, by its first pair."""
-    text = path.read_text(encoding="utf-8")
-    part = {key: it.group(1) if (it := re.search(rf"^{key}: ?(.*)$", text, re.M)) else "" for key in ("file", "old", "new")}
-    return Bug(part["file"], 0, part["old"], part["new"], path.stem)
+def all_tried(crate, planned, count):
+    """Tries the planned bugs until so many compiled, some at a time: of each its name, itself, the verdict and where it was refused."""
+    rows, judged = [], 0
+    with tempfile.TemporaryDirectory(prefix="planted-bugs-") as top:
+        room = pathlib.Path(top)
+        shutil.copytree("crates", room / "crates", ignore=shutil.ignore_patterns("out", "must-fail"))
+        shutil.copy("crates.txt", room)
+        while batch := dict(itertools.islice(planned, max(count - judged, 4) if judged < count else 0)):
+            said = tried(room, crate, batch)
+            rows += [(name, bug, *said[name]) for name, bug in batch.items()]
+            judged += sum(verdict in ("refused", "NOT REFUSED") for verdict, _ in said.values())
+    return rows
 
 
 def main():
@@ -175,36 +182,21 @@ def main():
     if not (folder / "src").is_dir():
         ask.error(f"there is no folder {folder}/src here")
     if given.edits:
-        paths = sorted(pathlib.Path(given.edits).glob("*.edit"))
-        planned, texts, head = iter([(path.stem, read_edit(path)) for path in paths]), {path.stem: path.read_text(encoding="utf-8") for path in paths}, ""
+        planned = [(it.stem, Bug("", "", it.read_text(encoding="utf-8"))) for it in sorted(pathlib.Path(given.edits).glob("*.edit"))]
+        head, given.count = f"{given.crate}: {len(planned)} edits", len(planned)
     else:
         bugs, left_out = bugs_of(folder, cases(folder.parent))
-        head = f"{given.crate}: {sum(map(len, bugs.values()))} bugs possible, and {left_out} lines left out that stand more than once"
-        planned, texts = ((f"planted_{number:03}", bug) for number, bug in enumerate(chosen(bugs, given.seed), 1)), {}
-    counts, rows = collections.Counter(), []
-    with tempfile.TemporaryDirectory(prefix="planted-bugs-") as top:
-        room = pathlib.Path(top)
-        shutil.copytree("crates", room / "crates", ignore=shutil.ignore_patterns("out", "must-fail"))
-        shutil.copy("crates.txt", room)
-        while True:
-            judged = counts["refused"] + counts["NOT REFUSED"]
-            wanted = len(texts) if given.edits else given.count - judged
-            batch = dict(itertools.islice(planned, max(wanted, 4) if wanted > 0 else 0))
-            if not batch:
-                break
-            for name, (verdict, why) in tried(room, given.crate, {name: texts.get(name) or edit_text(bug) for name, bug in batch.items()}).items():
-                counts[verdict] += 1
-                counts.update(words for sign, words in LESS.items() if sign in why)
-                rows.append((verdict, name, batch[name], why))
-    less = "".join(f" ({counts[words]} {words})" for words in LESS.values() if counts[words])
+        head = f"{given.crate}: {sum(map(len, bugs))} bugs possible, and {left_out} lines left out that stand more than once"
+        planned = ((f"planted_{number:03}", bug) for number, bug in enumerate(chosen(bugs, given.seed), 1))
+    rows = all_tried(given.crate, iter(planned), given.count)
+    counts = collections.Counter(verdict for _, _, verdict, _ in rows)
+    less = "".join(f" ({found} {words})" for sign, words in LESS.items() if (found := sum(sign in why for *_, why in rows)))
     last = (
         f"{given.crate}: {counts['refused'] + counts['NOT REFUSED']} tried, {counts['refused']} refused{less}, "
         f"{counts['NOT REFUSED']} survived; {counts['BAD EDIT']} did not compile, {counts['NOT TRIED']} gave no answer"
     )
-    words = {"refused": "refused", "NOT REFUSED": "SURVIVED", "BAD EDIT": "did not compile", "NOT TRIED": "NO ANSWER"}
-    told = [(verdict, f"{words[verdict]} {name} {bug.file}:{bug.line}: {bug.what}\n    old: {bug.old.strip()}\n    new: {bug.new.strip()}", why) for verdict, name, bug, why in rows]
-    for line in [head, *(text for verdict, text, _ in told if verdict in ("NOT REFUSED", "NOT TRIED")), last]:
-        print(line)
+    told = [(verdict, f"{WORDS[verdict]} {name} {bug.what}\n    {bug.edit.strip()}".replace("\n", "\n    "), why) for name, bug, verdict, why in rows]
+    print("\n".join([head, *(text for verdict, text, _ in told if verdict in ("NOT REFUSED", "NOT TRIED")), last]))
     if given.report:
         pathlib.Path(given.report).write_text("\n".join([head, *(f"{text}\n    {why}" for _, text, why in told), last, ""]), encoding="utf-8")
 

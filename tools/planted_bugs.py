@@ -195,7 +195,7 @@ def main():
         f"{given.crate}: {counts['refused'] + counts['NOT REFUSED']} tried, {counts['refused']} refused{less}, "
         f"{counts['NOT REFUSED']} survived; {counts['BAD EDIT']} did not compile, {counts['NOT TRIED']} gave no answer"
     )
-    told = [(verdict, f"{WORDS[verdict]} {name} {bug.what}\n    {bug.edit.strip()}".replace("\n", "\n    "), why) for name, bug, verdict, why in rows]
+    told = [(verdict, f"{WORDS[verdict]} {name} {bug.what}".rstrip() + f"\n{bug.edit.rstrip()}".replace("\n", "\n    "), why) for name, bug, verdict, why in rows]
     print("\n".join([head, *(text for verdict, text, _ in told if verdict in ("NOT REFUSED", "NOT TRIED")), last]))
     if given.report:
         pathlib.Path(given.report).write_text("\n".join([head, *(f"{text}\n    {why}" for _, text, why in told), last, ""]), encoding="utf-8")

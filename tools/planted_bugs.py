@@ -32,6 +32,7 @@ OPERATORS = [
 NUMBER = re.compile(r"(?<!\w)(?<![\w)\]]\.)(0x[0-9a-fA-F_]+|\d[\d_]*)((?:u|i)(?:8|16|32|64|128|size))?(?!\w)(?!\.\w)")
 CASE = re.compile(r"\b([A-Z]\w*)::([A-Z]\w*)\b(?!\s*\{)")
 CALL = re.compile(r"\b(\w+)\(((?:&(?:mut )?)?[a-z_][\w.]*), ((?:&(?:mut )?)?[a-z_][\w.]*)\)")
+TYPE = re.compile(r"[ui](8|16|32|64|128|size)|bool|char")
 NO_CODE = re.compile(r"(pub(\([a-z]+\))? )?(use|mod|fn|impl|struct|enum|trait|type|ghost|where)\b|#|//|[\]})]+[;,]?$")
 KEEPS = re.compile(r"(pub(\([a-z]+\))? )?(let|return|const|static|break|continue)\b|[})]")
 TABLE_ROW = re.compile(r"\s*[\w:(), ]+,")
@@ -98,7 +99,7 @@ def changes(line, cases_of):
             for case in sorted(group - {it[2]}) if it[2] in group else ():
                 yield put(*it.span(2), case), f"{it[0]} to {case}"
     for it in CALL.finditer(bare):
-        if it[2] != it[3]:
+        if it[2] != it[3] and not TYPE.fullmatch(it[2]):
             yield put(*it.span(), f"{it[1]}({it[3]}, {it[2]})"), f"the arguments of {it[1]} swapped"
     word = bare.strip()
     if word.endswith(";") and not KEEPS.match(word) and word.count("(") == word.count(")"):

@@ -98,7 +98,7 @@ StreamGained all = (past rest : List Moment) (m : Moment) (p : ℕ) (front back 
 pub record InStep (s : Tracker) (q : ℕ) : Type 0 where
   pub confidence : ℕ
   pub kept : Option header.Header
-  -- the wrong headers in a row, the mode and the samples kept may be any
+  -- the wrong headers in a row, the mode and the samples kept may be any; 48 octets of payload are still to come, none begun
   pub wrong : ℕ
   pub mode : Mode
   pub samples : ℕ

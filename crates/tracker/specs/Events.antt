@@ -7,8 +7,9 @@
 --   descrambler_event_to d d' b'  layer 3, whether or not the hunt begins
 --   events_on m l w               the events of the header w
 --   decided m l w                 the state after the header w and the events on it
---   ruled m l w                   what each rule says of the header w
---   settled l r                   the state and the events that follow from it
+--   cause_of v                    layer 1 in Steady by a verdict that the mode has been applied to (mended_by)
+--   hunting c m h d               HUNT, with the mode m, and the events of the three layers
+--   hunt_from d c m v             the boundary is lost for the cause c on a header with the verdict v: HUNT, and its events
 --   hunt_ends                     the events of a header that ends a hunt
 use Rattle.std.specs.Prelude.{ℕ, Some, None, Option}
 use Rattle.cell.specs.declared.verdict.Verdict.{Verdict}
@@ -29,8 +30,8 @@ use Rattle.tracker.specs.declared.state.Descrambler.{Descrambler}
 use Rattle.tracker.specs.declared.state.Descrambler.TheVariants.{Acquisition, Verification, Steady}
 use Rattle.tracker.specs.declared.state.Lock.{Lock}
 use Rattle.tracker.specs.declared.state.Headed.{Headed}
-use Rattle.tracker.specs.declared.rules.Decision.{Decision}
-use Rattle.tracker.specs.Rules.{sampled, descrambler_after, delineation_after, right, verdict_at, mode_after, header_taken, entered, headed}
+use Rattle.tracker.specs.declared.state.Place.TheVariants.{Hunt}
+use Rattle.tracker.specs.Rules.{sampled, descrambler_after, delineation_after, right, verdict_at, mode_on, mode_after, headed}
 
 abbrev pub header_cause : Mode → Verdict → Option HeaderCause
 header_cause m Clean = None
@@ -78,29 +79,24 @@ events_on m l w =
 abbrev pub decided : Mode → Lock → ℕ → Headed
 decided m l w = record { control = headed m l w; events = events_on m l w }
 
--- the same in two steps: what the rules say, and what follows from it
+-- the rules' method meets the same by the verdict in every state, which the mode has been applied to
+abbrev pub cause_of : Verdict → Option HeaderCause
+cause_of v = header_cause Correction v
 
-abbrev pub ruled : Mode → Lock → ℕ → Decision
-ruled m l w =
-    let u : ℕ = sampled l.samples w in
-    let d : Descrambler = descrambler_after l.descrambler u w in
-    record {
-      boundary = delineation_after l.delineation (right l.descrambler w);
-      descrambler = d;
-      samples = u;
-      mode = mode_after l.descrambler d m w;
-      cause = header_event l.descrambler m w;
-      taken = header_taken l.descrambler m w;
-    }
+abbrev pub cause_before : Descrambler → Verdict → Option HeaderCause
+cause_before (Acquisition c) v = None
+cause_before (Verification c p) v = None
+cause_before (Steady c p) v = cause_of v
 
-abbrev pub settled : Lock → Decision → Headed
-settled l r = record {
-  control = entered l r.taken r.descrambler r.samples r.mode r.boundary;
-  events = record {
-    header = r.cause;
-    boundary = boundary_event l.delineation r.boundary;
-    descrambler = descrambler_event_to l.descrambler r.descrambler r.boundary;
-  };
+abbrev pub mode_before : Descrambler → Mode → Verdict → Mode
+mode_before (Acquisition c) m v = m
+mode_before (Verification c p) m v = m
+mode_before (Steady c p) m v = mode_on v
+
+abbrev pub hunt_from : Descrambler → BoundaryCause → Mode → Verdict → Headed
+hunt_from d c m v = record {
+  control = record { mode = mode_before d m v; place = Hunt };
+  events = record { header = cause_before d v; boundary = Some c; descrambler = descrambler_event d (Acquisition 0) };
 }
 
 abbrev pub hunt_ends : HeaderEvents

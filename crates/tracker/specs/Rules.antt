@@ -43,30 +43,57 @@ abbrev pub both : Bool → Bool → Bool
 both true b = b
 both false b = false
 
+-- ---- the numbers
+
+abbrev pub found_at : ℕ
+found_at = 16
+
+abbrev pub steady_at : ℕ
+steady_at = 24
+
+abbrev pub least_in_verification : ℕ
+least_in_verification = 8
+
+abbrev pub least_in_steady : ℕ
+least_in_steady = 16
+
+abbrev pub confirmations : ℕ
+confirmations = 8
+
+abbrev pub wrong_to_hunt : ℕ
+wrong_to_hunt = 7
+
 -- ---- the descrambler
 
 -- if the samples fitted no phase, Acquisition would begin again
 abbrev pub found_phase : Result ℕ Refusal → Descrambler
-found_phase (Ok p) = Verification 16 p
+found_phase (Ok p) = Verification found_at p
 found_phase (Err e) = Acquisition 0
 
 abbrev pub acquire : Bool → ℕ → ℕ → Descrambler
-acquire a c u = cond a (cond (nat_lt c 15) (Acquisition (c + 1)) (found_phase (found (u % 2 ^ 31)))) (Acquisition 0)
+acquire a c u = cond a (cond (nat_lt (c + 1) found_at) (Acquisition (c + 1)) (found_phase (found (u % 2 ^ 31)))) (Acquisition 0)
 
 -- up by one to Steady at 24, or down by one, and below 8 back to Acquisition; a header that disagrees leaves the confidence
 abbrev pub verify : Bool → Bool → ℕ → ℕ → Descrambler
 verify a m c p =
-    cond a (cond m (cond (nat_lt c 23) (Verification (c + 1) p) (Steady 24 p)) (cond (nat_lt 8 c) (Verification (c - 1) p) (Acquisition 0)))
+    cond a
+    (cond m (cond (nat_lt (c + 1) steady_at) (Verification (c + 1) p) (Steady steady_at p))
+    (cond (nat_lt least_in_verification c) (Verification (c - 1) p) (Acquisition 0)))
     (Verification c p)
 
 -- down by one, and below 16 back to Acquisition; or up by one, to at most 24
 abbrev pub hold : Bool → ℕ → ℕ → Descrambler
-hold f c p = cond f (cond (nat_lt 16 c) (Steady (c - 1) p) (Acquisition 0)) (Steady (cond (nat_lt c 24) (c + 1) 24) p)
+hold f c p = cond f (cond (nat_lt least_in_steady c) (Steady (c - 1) p) (Acquisition 0)) (Steady (cond (nat_lt c steady_at) (c + 1) steady_at) p)
 
 abbrev pub descrambler_after : Descrambler → ℕ → ℕ → Descrambler
 descrambler_after (Acquisition c) u w = acquire (agrees w) c u
 descrambler_after (Verification c p) u w = verify (agrees w) (samples_in w == predicted (next_phase p)) c (next_phase p)
 descrambler_after (Steady c p) u w = hold (sample_fault (freed (next_phase p) w)) c (next_phase p)
+
+abbrev pub at_next_cell : Descrambler → Descrambler
+at_next_cell (Acquisition c) = Acquisition c
+at_next_cell (Verification c p) = Verification c (next_phase p)
+at_next_cell (Steady c p) = Steady c (next_phase p)
 
 abbrev pub phase_of : Descrambler → Option ℕ
 phase_of (Acquisition c) = None
@@ -76,6 +103,9 @@ phase_of (Steady c p) = Some p
 -- two bits a header, in 32 bits
 unfoldable pub sampled : ℕ → ℕ → ℕ
 sampled u w = u % 2 ^ 30 * 2 ^ 2 + samples_in w
+
+abbrev pub at_header : Lock → ℕ → Lock
+at_header l w = record { delineation = l.delineation; descrambler = at_next_cell l.descrambler; samples = sampled l.samples w }
 
 -- ---- the boundary
 
@@ -87,15 +117,31 @@ is_clean Clean = true
 is_clean (OneWrongBit i) = false
 is_clean PastMending = false
 
+-- detection mode mends nothing
+abbrev pub mended_by : Mode → Verdict → Verdict
+mended_by m Clean = Clean
+mended_by Correction (OneWrongBit i) = OneWrongBit i
+mended_by Detection (OneWrongBit i) = PastMending
+mended_by m PastMending = PastMending
+
+abbrev pub verdict_in : Descrambler → Mode → ℕ → Verdict
+verdict_in (Acquisition c) m w = cond (agrees w) Clean PastMending
+verdict_in (Verification c p) m w = cond (agrees w) Clean PastMending
+verdict_in (Steady c p) m w = mended_by m (verdict_at p w)
+
 abbrev pub right : Descrambler → ℕ → Bool
 right (Acquisition c) w = agrees w
 right (Verification c p) w = agrees w
 right (Steady c p) w = is_clean (verdict_at (next_phase p) w)
 
+abbrev pub confirmed : Delineation → Delineation
+confirmed (Presync n) = cond (nat_lt (n + 1) confirmations) (Presync (n + 1)) (Sync 0)
+confirmed (Sync n) = Sync 0
+
 -- eight right headers in a row lead from PRESYNC to SYNC, a wrong one to HUNT; seven wrong ones in a row from SYNC to HUNT
 abbrev pub delineation_after : Delineation → Bool → Option Delineation
-delineation_after (Presync n) r = cond r (Some (cond (nat_lt n 7) (Presync (n + 1)) (Sync 0))) None
-delineation_after (Sync n) r = cond r (Some (Sync 0)) (cond (nat_lt n 6) (Some (Sync (n + 1))) None)
+delineation_after (Presync n) r = cond r (Some (confirmed (Presync n))) None
+delineation_after (Sync n) r = cond r (Some (confirmed (Sync n))) (cond (nat_lt (n + 1) wrong_to_hunt) (Some (Sync (n + 1))) None)
 
 -- ---- mending, in Steady
 

@@ -7,9 +7,10 @@
 --   descrambler_event_to d d' b'  layer 3, whether or not the hunt begins
 --   events_on m l w               the events of the header w
 --   decided m l w                 the state after the header w and the events on it
---   cause_of v                    layer 1 in Steady by a verdict that the mode has been applied to (mended_by)
---   hunting c m h d               HUNT, with the mode m, and the events of the three layers
---   hunt_from d c m v             the boundary is lost for the cause c on a header with the verdict v: HUNT, and its events
+--   cause_of v                    layer 1 in Steady, by a verdict that is already that of its mode (in_mode)
+--   lost_cause d v                layer 1 on a header with the verdict v that loses the boundary: outside Steady there is none
+--   lost_mode d m v               the mode m after it, which stays outside Steady
+--   hunt_from d c m v             HUNT for the cause c, after a header with the verdict v, and the events on it
 --   hunt_ends                     the events of a header that ends a hunt
 use Rattle.std.specs.Prelude.{ℕ, Some, None, Option}
 use Rattle.cell.specs.declared.verdict.Verdict.{Verdict}
@@ -79,24 +80,24 @@ events_on m l w =
 abbrev pub decided : Mode → Lock → ℕ → Headed
 decided m l w = record { control = headed m l w; events = events_on m l w }
 
--- the rules' method meets the same by the verdict in every state, which the mode has been applied to
+-- the same by the verdict in every state, for a header that loses the boundary
 abbrev pub cause_of : Verdict → Option HeaderCause
 cause_of v = header_cause Correction v
 
-abbrev pub cause_before : Descrambler → Verdict → Option HeaderCause
-cause_before (Acquisition c) v = None
-cause_before (Verification c p) v = None
-cause_before (Steady c p) v = cause_of v
+abbrev pub lost_cause : Descrambler → Verdict → Option HeaderCause
+lost_cause (Acquisition c) v = None
+lost_cause (Verification c p) v = None
+lost_cause (Steady c p) v = cause_of v
 
-abbrev pub mode_before : Descrambler → Mode → Verdict → Mode
-mode_before (Acquisition c) m v = m
-mode_before (Verification c p) m v = m
-mode_before (Steady c p) m v = mode_on v
+abbrev pub lost_mode : Descrambler → Mode → Verdict → Mode
+lost_mode (Acquisition c) m v = m
+lost_mode (Verification c p) m v = m
+lost_mode (Steady c p) m v = mode_on v
 
 abbrev pub hunt_from : Descrambler → BoundaryCause → Mode → Verdict → Headed
 hunt_from d c m v = record {
-  control = record { mode = mode_before d m v; place = Hunt };
-  events = record { header = cause_before d v; boundary = Some c; descrambler = descrambler_event d (Acquisition 0) };
+  control = record { mode = lost_mode d m v; place = Hunt };
+  events = record { header = lost_cause d v; boundary = Some c; descrambler = descrambler_event d (Acquisition 0) };
 }
 
 abbrev pub hunt_ends : HeaderEvents

@@ -126,7 +126,7 @@ impl Delineation {
 }
 
 impl Descrambler {
-    // The same at the phase of the next cell.
+    // The same at the phase of the next cell, once its header has come.
     fn at_next_cell(self) -> Descrambler
         ensures { result ≡ at_next_cell self }
     {
@@ -141,8 +141,8 @@ impl Descrambler {
         }
     }
 
-    // The verdict on the header of this cell. In Steady it is that on the freed syndrome, and in detection mode one wrong bit is past mending;
-    // else a header is clean where it agrees, and none is mended.
+    // The verdict on the header of this cell: a header is right exactly where it is clean. In Steady it is that on the freed syndrome, and
+    // in detection mode one wrong bit is past mending; in the other states a header is clean where it agrees, and none is mended.
     fn verdict(self, mode: Mode, window: Window) -> Verdict
         ensures { result ≡ verdict_in self mode window.bits }
     {
@@ -198,7 +198,8 @@ impl Lock {
         }
     }
 
-    // The state after a header and the events on it, decided together.
+    // The state after a header and the events on it, decided together by the state before it and the verdict on it. PRESYNC is never in Steady, but
+    // the same rules would hold there.
     pub(crate) fn take_header(self, mode: Mode, window: Window) -> Headed
         ensures { result ≡ decided mode self window.bits }
     {
@@ -288,7 +289,7 @@ impl Lock {
         }
     }
 
-    // The state after a header that leaves a boundary, by what each layer has come to, with the event that led there.
+    // The payload after a header that leaves a boundary, by what each layer has come to, with the event on the way.
     fn enter(
         self,
         boundary: (Delineation, Option<BoundaryCause>),

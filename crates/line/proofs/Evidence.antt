@@ -125,10 +125,10 @@ knows_found (Ok p) row earlier w c a f = record {
 }
 
 module _ (laws : CodeLaws) where
-  knows_row : (t : Bool) (c : ℕ) (hs : List ℕ) (u w : ℕ) → agrees w ≡ true → ltb c 15 ≡ t → Keeps u hs → AgreeingRow c hs
+  knows_row : (t : Bool) (c : ℕ) (hs : List ℕ) (u w : ℕ) → agrees w ≡ true → ltb (c + 1) 16 ≡ t → Keeps u hs → AgreeingRow c hs
       → Knows (cond t (Acquisition (c + 1)) (found_phase (found (sampled u w % 2 ^ 31)))) (w ∷ hs)
   knows_row false c hs u w a e h k =
-      let n : length k.row ≡ 15 = (let z = ltb-false c 15 e in let y = k.most in let x = k.count in omega arith) in
+      let n : length k.row ≡ 15 = (let z = ltb-false (c + 1) 16 e in let y = k.most in let x = k.count in omega arith) in
       let q = last_samples u hs k.row k.earlier w k.split n h in
       subst (λ l. Knows (found_phase (found (sampled u w % 2 ^ 31))) (w ∷ l)) (sym k.split)
       (knows_found (found (sampled u w % 2 ^ 31)) k.row k.earlier w n ((a, k.agree))
@@ -139,27 +139,27 @@ module _ (laws : CodeLaws) where
     split = ap (λ l. w ∷ l) k.split;
     count = omega arith;
     agree = (a, k.agree);
-    most = (let z = ltb-true c 15 e in omega arith);
+    most = (let z = ltb-true (c + 1) 16 e in omega arith);
   }
 
   knows_acquire : (a : Bool) (c : ℕ) (hs : List ℕ) (u w : ℕ) → agrees w ≡ a → Keeps u hs → AgreeingRow c hs → Knows (acquire a c (sampled u w)) (w ∷ hs)
   knows_acquire false c hs u w a h k = row_none (w ∷ hs)
-  knows_acquire true c hs u w a h k = knows_row (ltb c 15) c hs u w a refl h k
+  knows_acquire true c hs u w a h k = knows_row (ltb (c + 1) 16) c hs u w a refl h k
 
   fewer : (t : Bool) (c p : ℕ) (hs : List ℕ) (w : ℕ) → Gave c p hs → Knows (cond t (Verification (c - 1) (next_phase p)) (Acquisition 0)) (w ∷ hs)
   fewer true c p hs w g = gave_more c (c - 1) p hs w g (omega arith)
   fewer false c p hs w g = row_none (w ∷ hs)
 
-  more : (t : Bool) (c p : ℕ) (hs : List ℕ) (w : ℕ) → ltb c 23 ≡ t → (g : Gave c p hs) → c + 1 ≤ 16 + as_predicted g.phase (w ∷ g.later)
+  more : (t : Bool) (c p : ℕ) (hs : List ℕ) (w : ℕ) → ltb (c + 1) 24 ≡ t → (g : Gave c p hs) → c + 1 ≤ 16 + as_predicted g.phase (w ∷ g.later)
       → Knows (cond t (Verification (c + 1) (next_phase p)) (Steady 24 (next_phase p))) (w ∷ hs)
-  more false c p hs w e g h = gave_more c 24 p hs w g (let f = ltb-false c 23 e in omega arith)
+  more false c p hs w e g h = gave_more c 24 p hs w g (let f = ltb-false (c + 1) 24 e in omega arith)
   more true c p hs w e g h = gave_more c (c + 1) p hs w g h
 
   knows_verify : (a m : Bool) (c p : ℕ) (hs : List ℕ) (w : ℕ) → agrees w ≡ a → eqb (samples_in w) (predicted (next_phase p)) ≡ m → Gave c p hs
       → Knows (verify a m c (next_phase p)) (w ∷ hs)
   knows_verify false m c p hs w a e g = gave_more c c p hs w g (omega arith)
   knows_verify true false c p hs w a e g = fewer (ltb 8 c) c p hs w g
-  knows_verify true true c p hs w a e g = more (ltb c 23) c p hs w refl g
+  knows_verify true true c p hs w a e g = more (ltb (c + 1) 24) c p hs w refl g
       (rw (a, ap (λ q. eqb (samples_in w) (predicted (next_phase q))) (sym g.moved) ∙ e) (omega arith))
 
   kept_up : (t : Bool) (c p : ℕ) (hs : List ℕ) (w : ℕ) → Gave 24 p hs → Knows (cond t (Steady (c - 1) (next_phase p)) (Acquisition 0)) (w ∷ hs)

@@ -71,7 +71,7 @@ module _ (laws : CodeLaws) where
     None,
     steady (next_phase q) (sampled u (value (header_bits y))),
     from_cell 1 (y ∷ ys),
-    verify_last c q m u (value (header_bits y)) (header_agrees laws e.0) (header_samples laws e.0) (le-ltb c 23 (omega arith)),
+    verify_last c q m u (value (header_bits y)) (header_agrees laws e.0) (header_samples laws e.0) (le-ltb (c + 1) 24 (omega arith)),
     refl,
     brings_first ys y (next_phase q) Correction _ e.1,
   )
@@ -80,7 +80,7 @@ module _ (laws : CodeLaws) where
     None,
     verifying (c + 1) (next_phase q) (sampled u (value (header_bits y))),
     from_cell (suc (suc d)) (y ∷ ys),
-    verify_next c q m u (value (header_bits y)) (header_agrees laws e.0) (header_samples laws e.0) (lt-ltb c 23 (omega arith)),
+    verify_next c q m u (value (header_bits y)) (header_agrees laws e.0) (header_samples laws e.0) (lt-ltb (c + 1) 24 (omega arith)),
     refl,
     brings_verify ys d y (next_phase q) m (c + 1) _ (omega arith) e.1,
   )
@@ -92,7 +92,7 @@ module _ (laws : CodeLaws) where
   brings_acquire (y ∷ ys) zero x q m i n h f =
       let q' : ℕ = moved (suc i) q in
       let w : ℕ = value (header_bits y) in
-      let t : ltb (i + 1) 15 ≡ false = le-ltb (i + 1) 15 (omega arith) in
+      let t : ltb (i + 1 + 1) 16 ≡ false = le-ltb (i + 1 + 1) 16 (omega arith) in
       let l : i ≡ 14 = omega arith in
       let u : sampled (trail i q) w ≡ trail (suc i) q = sampled_trail i q w (header_samples laws f.0) in
       let p : found (trail (suc i) q % 2 ^ 31) ≡ Ok q' = subst (λ z. found (trail (suc z) q % 2 ^ 31) ≡ Ok (moved (suc z) q)) (sym l)
@@ -120,7 +120,7 @@ module _ (laws : CodeLaws) where
       )
   brings_acquire (y ∷ ys) (suc e) x q m i n h f =
       let w : ℕ = value (header_bits y) in
-      let t : ltb (i + 1) 15 ≡ true = lt-ltb (i + 1) 15 (omega arith) in
+      let t : ltb (i + 1 + 1) 16 ≡ true = lt-ltb (i + 1 + 1) 16 (omega arith) in
       let l : i + 1 ≡ suc i = omega arith in
       let u : sampled (trail i q) w ≡ trail (suc i) q = sampled_trail i q w (header_samples laws f.0) in (
         m,

@@ -136,11 +136,11 @@ module _ (laws : CodeLaws) where
   verify_run [] d x q s m c u n h f a = absurd (omega arith)
   verify_run (y ∷ ys) zero x q s m c u n h f a =
       onward s m Correction None _ (verifying c q u) _ x y ys q q f a
-      (verify_last c q m u (value (header_bits y)) (header_agrees laws f.1.0) (header_samples laws f.1.0) (le-ltb c 23 (omega arith)))
+      (verify_last c q m u (value (header_bits y)) (header_agrees laws f.1.0) (header_samples laws f.1.0) (le-ltb (c + 1) 24 (omega arith)))
       (λ t b. steady_run ys y (next_phase q) t Correction None _ f.1 b)
   verify_run (y ∷ ys) (suc d) x q s m c u n h f a =
       onward s m m None _ (verifying c q u) _ x y ys q q f a
-      (verify_next c q m u (value (header_bits y)) (header_agrees laws f.1.0) (header_samples laws f.1.0) (lt-ltb c 23 (omega arith)))
+      (verify_next c q m u (value (header_bits y)) (header_agrees laws f.1.0) (header_samples laws f.1.0) (lt-ltb (c + 1) 24 (omega arith)))
       (λ t b. verify_run ys d y (next_phase q) t m (c + 1) _ (omega arith) (omega arith) f.1 b)
 
   -- the header y is that of the cell i + 1, after one that agreed and was the cell i
@@ -148,7 +148,7 @@ module _ (laws : CodeLaws) where
       → headed m (acquiring (bound_at (i + 1)) (i + 1) (trail i q)) (value (header_bits y)) ≡ at m (Payload 47 7 None (acquiring (bound_at (suc i + 1)) (suc i + 1) (trail (suc i) q)))
   acquired_sent m i q y n f =
       let w : ℕ = value (header_bits y) in
-      let t : ltb (i + 1) 15 ≡ true = lt-ltb (i + 1) 15 (omega arith) in
+      let t : ltb (i + 1 + 1) 16 ≡ true = lt-ltb (i + 1 + 1) 16 (omega arith) in
       let l : i + 1 ≡ suc i = omega arith in
       let u : sampled (trail i q) w ≡ trail (suc i) q = sampled_trail i q w (header_samples laws f) in
       acquire_next (bound_at (i + 1)) (bound_at (i + 1 + 1)) m (i + 1) (trail i q) w (bound_next (i + 1) (omega arith)) (header_agrees laws f)

@@ -64,8 +64,8 @@ sure_hold true c p l h = sure_down (ltb 16 c) c p refl h
 sure_hold false c p l h = let r = raised_is c h in let a = r.0 in (omega arith, r.1)
 
 sure_after : (d : Descrambler) (u w : ℕ) → Sure d → Sure (descrambler_after d u w)
-sure_after (Acquisition c) u w s = sure_acquire (agrees w) (ltb c 15) (c + 1) (found (u % 2 ^ 31))
-sure_after (Verification c p) u w s = sure_verify (agrees w) (eqb (samples_in w) (predicted (next_phase p))) (ltb c 23) (ltb 8 c) c (c + 1) (c - 1)
+sure_after (Acquisition c) u w s = sure_acquire (agrees w) (ltb (c + 1) 16) (c + 1) (found (u % 2 ^ 31))
+sure_after (Verification c p) u w s = sure_verify (agrees w) (eqb (samples_in w) (predicted (next_phase p))) (ltb (c + 1) 24) (ltb 8 c) c (c + 1) (c - 1)
     (next_phase p)
 sure_after (Steady c p) u w s = sure_hold (sample_fault (freed (next_phase p) w)) c (next_phase p) s.0 s.1
 

@@ -40,7 +40,7 @@ if_sync false n x e = cc
 if_sync true n x e = no_way cc
 
 bound_zero : (b₀ b : Delineation) (x : ℕ) → delineation_after b₀ true ≡ Some b → b ≡ Sync x → x ≡ 0
-bound_zero (Presync n) b x e f = if_sync (ltb n 7) (n + 1) x (let y : cond (ltb n 7) (Presync (n + 1)) (Sync 0) ≡ b = cc in y ∙ f)
+bound_zero (Presync n) b x e f = if_sync (ltb (n + 1) 8) (n + 1) x (let y : cond (ltb (n + 1) 8) (Presync (n + 1)) (Sync 0) ≡ b = cc in y ∙ f)
 bound_zero (Sync n) b x e f = cc
 
 hold_phase : (f t u : Bool) (c₀ c p q : ℕ) → cond f (cond t (Steady (c₀ - 1) p) (Acquisition 0)) (Steady (cond u (c₀ + 1) 24) p) ≡ Steady c q → p ≡ q
@@ -105,7 +105,7 @@ module _ (w q : ℕ) (agree : agrees w ≡ true) (clean : freed q w ≡ 0) (no_f
       (verdict (next_phase p) (hold_phase (sample_fault (freed (next_phase p) w)) (ltb 16 n) (ltb n 24) n c (next_phase p) q e))
 
   mode_by : (d : Descrambler) (u c : ℕ) (m : Mode) → descrambler_after d u w ≡ Steady c q → mode_after d (descrambler_after d u w) m w ≡ Correction
-  mode_by (Acquisition n) u c m e = absurd (acquire_not (agrees w) (ltb n 15) (found (u % 2 ^ 31)) (n + 1) c q e)
+  mode_by (Acquisition n) u c m e = absurd (acquire_not (agrees w) (ltb (n + 1) 16) (found (u % 2 ^ 31)) (n + 1) c q e)
   mode_by (Verification n p) u c m e = ap (λ t. mode_after (Verification n p) t m w) e
   mode_by (Steady n p) u c m e = ap mode_on
       (verdict (next_phase p) (hold_phase (sample_fault (freed (next_phase p) w)) (ltb 16 n) (ltb n 24) n c (next_phase p) q e))
@@ -117,9 +117,9 @@ module _ (w q : ℕ) (agree : agrees w ≡ true) (clean : freed q w ≡ 0) (no_f
       cc
 
   sure_by : (d : Descrambler) (u c : ℕ) → Sure d → descrambler_after d u w ≡ Steady c q → (17 ≤ c) × (c ≤ 24)
-  sure_by (Acquisition n) u c s e = absurd (acquire_not (agrees w) (ltb n 15) (found (u % 2 ^ 31)) (n + 1) c q e)
+  sure_by (Acquisition n) u c s e = absurd (acquire_not (agrees w) (ltb (n + 1) 16) (found (u % 2 ^ 31)) (n + 1) c q e)
   sure_by (Verification n p) u c s e =
-      let z = verify_full (agrees w) (eqb (samples_in w) (predicted (next_phase p))) (ltb n 23) (ltb 8 n) n (n + 1) (n - 1) (next_phase p) c q e in
+      let z = verify_full (agrees w) (eqb (samples_in w) (predicted (next_phase p))) (ltb (n + 1) 24) (ltb 8 n) n (n + 1) (n - 1) (next_phase p) c q e in
       (omega arith, omega arith)
   sure_by (Steady n p) u c s e =
       let z = raised_by n (next_phase p) c (hold_phase (sample_fault (freed (next_phase p) w)) (ltb 16 n) (ltb n 24) n c (next_phase p) q e) e in

@@ -62,12 +62,12 @@ steady_next q m u w h v e f =
     (ap verdict_of e ∙ v) f in
     rw (j, e, v) refl
 
-pub verify_next : (c q : ℕ) (m : Mode) (u w : ℕ) → agrees w ≡ true → samples_in w ≡ predicted (next_phase q) → ltb c 23 ≡ true
+pub verify_next : (c q : ℕ) (m : Mode) (u w : ℕ) → agrees w ≡ true → samples_in w ≡ predicted (next_phase q) → ltb (c + 1) 24 ≡ true
     → headed m (verifying c q u) w ≡ at m (Payload 47 7 None (verifying (c + 1) (next_phase q) (sampled u w)))
 verify_next c q m u w a s t = let e : eqb (samples_in w) (predicted (next_phase q)) ≡ true = eq-eqb (samples_in w) (predicted (next_phase q)) s in rw
     (a, e, t) refl
 
-pub verify_last : (c q : ℕ) (m : Mode) (u w : ℕ) → agrees w ≡ true → samples_in w ≡ predicted (next_phase q) → ltb c 23 ≡ false
+pub verify_last : (c q : ℕ) (m : Mode) (u w : ℕ) → agrees w ≡ true → samples_in w ≡ predicted (next_phase q) → ltb (c + 1) 24 ≡ false
     → headed m (verifying c q u) w ≡ at Correction (Payload 47 7 None (steady (next_phase q) (sampled u w)))
 verify_last c q m u w a s t = let e : eqb (samples_in w) (predicted (next_phase q)) ≡ true = eq-eqb (samples_in w) (predicted (next_phase q)) s in rw
     (a, e, t) refl
@@ -76,13 +76,13 @@ abbrev pub acquired : Mode → ℕ → ℕ → ℕ → Delineation → Control
 acquired m c u w b = at m (Payload 47 7 None
     (record {
       delineation = b;
-      descrambler = cond (ltb c 15) (Acquisition (c + 1)) (found_phase (found (sampled u w % 2 ^ 31)));
+      descrambler = cond (ltb (c + 1) 16) (Acquisition (c + 1)) (found_phase (found (sampled u w % 2 ^ 31)));
       samples = sampled u w;
     }))
 
 pub acquire_next : (b b' : Delineation) (m : Mode) (c u w : ℕ) → delineation_after b true ≡ Some b' → agrees w ≡ true
     → headed m (acquiring b c u) w ≡ acquired m c u w b'
-acquire_next (Presync n) b' m c u w e a = rw a (let q : cond (ltb n 7) (Presync (n + 1)) (Sync 0) ≡ b' = cc in ap (acquired m c u w) q)
+acquire_next (Presync n) b' m c u w e a = rw a (let q : cond (ltb (n + 1) 8) (Presync (n + 1)) (Sync 0) ≡ b' = cc in ap (acquired m c u w) q)
 acquire_next (Sync n) b' m c u w e a = rw a (let q : Sync 0 ≡ b' = cc in ap (acquired m c u w) q)
 
 abbrev pub bound_at : ℕ → Delineation
@@ -95,7 +95,7 @@ bound_next c h = go (dec_lt c 8) (dec_lt c 9)
     go (yes l) (yes m) =
         let t : ltb c 9 ≡ true = lt-ltb c 9 m in
         let u : ltb (c + 1) 9 ≡ true = lt-ltb (c + 1) 9 (omega arith) in
-        let v : ltb (c - 1) 7 ≡ true = lt-ltb (c - 1) 7 (omega arith) in
+        let v : ltb (c - 1 + 1) 8 ≡ true = lt-ltb (c - 1 + 1) 8 (omega arith) in
         let x : c - 1 + 1 ≡ c + 1 - 1 = omega arith in
         rw (t, u, v, x) refl
     go (yes l) (no m) = absurd (m (omega arith))

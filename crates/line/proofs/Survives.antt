@@ -66,7 +66,7 @@ hold_any false c q h k = let r = raised_is c k in let a = r.0 in let b = r.1 in 
 
 bound_any : (t : Bool) (n : ℕ) → n ≤ 5 → (k : ℕ) × (delineation_after (Sync n) t ≡ Some (Sync k)) × (k ≤ n + 1)
 bound_any true n h = (0, refl, omega arith)
-bound_any false n h = (n + 1, ap (λ t. cond t (Some (Sync (n + 1))) None) (lt-ltb n 6 (omega arith)), omega arith)
+bound_any false n h = (n + 1, ap (λ t. cond t (Some (Sync (n + 1))) None) (lt-ltb (n + 1) 7 (omega arith)), omega arith)
 
 abbrev pub taken : Mode → ℕ → ℕ → Option headers.Header
 taken m q w = taken_by m (verdict_at q w) q w

@@ -7,8 +7,10 @@
 --   descrambler_event_to d d' b'  layer 3, whether or not the hunt begins
 --   events_on m l w               the events of the header w
 --   decided m l w                 the state after the header w and the events on it
---   ruled m l w                   what each rule says of the header w
---   settled l r                   the state and the events that follow from it
+--   cause_of v                    layer 1 in Steady, by a verdict that is already that of its mode (in_mode)
+--   lost_cause d v                layer 1 on a header with the verdict v that loses the boundary: outside Steady there is none
+--   lost_mode d m v               the mode m after it, which stays outside Steady
+--   hunt_from d c m v             HUNT for the cause c, after a header with the verdict v, and the events on it
 --   hunt_ends                     the events of a header that ends a hunt
 use Rattle.std.specs.Prelude.{ℕ, Some, None, Option}
 use Rattle.cell.specs.declared.verdict.Verdict.{Verdict}
@@ -29,8 +31,8 @@ use Rattle.tracker.specs.declared.state.Descrambler.{Descrambler}
 use Rattle.tracker.specs.declared.state.Descrambler.TheVariants.{Acquisition, Verification, Steady}
 use Rattle.tracker.specs.declared.state.Lock.{Lock}
 use Rattle.tracker.specs.declared.state.Headed.{Headed}
-use Rattle.tracker.specs.declared.rules.Decision.{Decision}
-use Rattle.tracker.specs.Rules.{sampled, descrambler_after, delineation_after, right, verdict_at, mode_after, header_taken, entered, headed}
+use Rattle.tracker.specs.declared.state.Place.TheVariants.{Hunt}
+use Rattle.tracker.specs.Rules.{sampled, descrambler_after, delineation_after, right, verdict_at, mode_on, mode_after, headed}
 
 abbrev pub header_cause : Mode → Verdict → Option HeaderCause
 header_cause m Clean = None
@@ -78,29 +80,24 @@ events_on m l w =
 abbrev pub decided : Mode → Lock → ℕ → Headed
 decided m l w = record { control = headed m l w; events = events_on m l w }
 
--- the same in two steps: what the rules say, and what follows from it
+-- the same by the verdict in every state, for a header that loses the boundary
+abbrev pub cause_of : Verdict → Option HeaderCause
+cause_of v = header_cause Correction v
 
-abbrev pub ruled : Mode → Lock → ℕ → Decision
-ruled m l w =
-    let u : ℕ = sampled l.samples w in
-    let d : Descrambler = descrambler_after l.descrambler u w in
-    record {
-      boundary = delineation_after l.delineation (right l.descrambler w);
-      descrambler = d;
-      samples = u;
-      mode = mode_after l.descrambler d m w;
-      cause = header_event l.descrambler m w;
-      taken = header_taken l.descrambler m w;
-    }
+abbrev pub lost_cause : Descrambler → Verdict → Option HeaderCause
+lost_cause (Acquisition c) v = None
+lost_cause (Verification c p) v = None
+lost_cause (Steady c p) v = cause_of v
 
-abbrev pub settled : Lock → Decision → Headed
-settled l r = record {
-  control = entered l r.taken r.descrambler r.samples r.mode r.boundary;
-  events = record {
-    header = r.cause;
-    boundary = boundary_event l.delineation r.boundary;
-    descrambler = descrambler_event_to l.descrambler r.descrambler r.boundary;
-  };
+abbrev pub lost_mode : Descrambler → Mode → Verdict → Mode
+lost_mode (Acquisition c) m v = m
+lost_mode (Verification c p) m v = m
+lost_mode (Steady c p) m v = mode_on v
+
+abbrev pub hunt_from : Descrambler → BoundaryCause → Mode → Verdict → Headed
+hunt_from d c m v = record {
+  control = record { mode = lost_mode d m v; place = Hunt };
+  events = record { header = lost_cause d v; boundary = Some c; descrambler = descrambler_event d (Acquisition 0) };
 }
 
 abbrev pub hunt_ends : HeaderEvents

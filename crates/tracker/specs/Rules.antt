@@ -1,18 +1,35 @@
 -- The rules of the receiving end at a header. Each reads the state before the header; w is the header, the last 40 bits.
 --
+--   found_at, steady_at      the confidences at which the phase is found and Steady begins
+--   least_in_verification, least_in_steady
+--                            the confidences below which these two states are left for Acquisition
+--   confirmations            so many right headers after the one that ended the hunt lead from PRESYNC to SYNC
+--   wrong_to_hunt            so many wrong headers in a row lead from SYNC to HUNT
+--   found_phase r            what the finder's answer r to the samples leads to
 --   acquire a c u            Acquisition with confidence c, after a header that agrees or not (a): sixteen that agree in a row
 --                            give the phase, by the last 31 of the samples u of sixteen headers
 --   verify a m c p           Verification at the phase p of this cell; m: both samples are as predicted
 --   hold f c p               Steady; f: the freed syndrome is 0x80, 0x40 or 0xC0
 --   descrambler_after d u w  the descrambler d after the header, whichever state it is in
---   verdict_at p w           the verdict on the header freed of the samples of the phase p
---   right d w                the header is not wrong: it agrees, and in Steady it is clean
---   delineation_after b r    the boundary b after a header that is right or not (r); None is HUNT
---   mode_after d e m w       the mode m after the header, where the descrambler d becomes e
---   header_taken d m w       the header of the cell, descrambled, where it is valid or mended
---   in_step l                SYNC and Steady
+--   at_next_cell d           the descrambler d at the phase of the next cell, whose header has come
 --   phase_of d               the phase of the cell that is coming in, once one is found
 --   sampled u w              the samples of the last sixteen headers, this one the newest
+--   at_header l w            the lock l with this header's samples, at the phase of its cell
+--   verdict_at p w           the verdict on the header freed of the samples of the phase p
+--   is_clean v               the verdict v is that nothing is wrong
+--   in_mode m v              the verdict v in the mode m: in detection mode one wrong bit is past mending
+--   verdict_in d m w         the verdict on the header in every state d, at the phase of its cell: in Steady that on the freed syndrome, in the mode m;
+--                            else clean where it agrees and past mending where not
+--   right d w                the header is not wrong: it agrees, and in Steady it is clean
+--   confirmed b              the boundary b after a right header
+--   delineation_after b r    the boundary b after a header that is right or not (r); None is HUNT
+--   mode_on v                the mode after a header in Steady with the verdict v
+--   begun d m                the mode m after a header in Verification, which leads to the descrambler d
+--   mode_after d e m w       the mode m after the header, where the descrambler d becomes e
+--   taken_by m v p w         the header of the cell in Steady, by the mode m and the verdict v, descrambled at the phase p
+--   header_taken d m w       the same in any state, where it is valid or mended; outside Steady there is none
+--   is_sync b, is_steady d   the boundary b is in SYNC; the descrambler d is in Steady
+--   in_step l                SYNC and Steady
 --   payload_to l k h         the payload of the cell, which is kept if a header h was taken and the end is in step both before (l) and
 --                            after (k) it
 --   entered l h d u m b      a boundary b is still assumed after the header, and its payload comes; or b is None, and the hunt begins
@@ -43,30 +60,57 @@ abbrev pub both : Bool → Bool → Bool
 both true b = b
 both false b = false
 
+-- ---- the numbers
+
+abbrev pub found_at : ℕ
+found_at = 16
+
+abbrev pub steady_at : ℕ
+steady_at = 24
+
+abbrev pub least_in_verification : ℕ
+least_in_verification = 8
+
+abbrev pub least_in_steady : ℕ
+least_in_steady = 16
+
+abbrev pub confirmations : ℕ
+confirmations = 8
+
+abbrev pub wrong_to_hunt : ℕ
+wrong_to_hunt = 7
+
 -- ---- the descrambler
 
 -- if the samples fitted no phase, Acquisition would begin again
 abbrev pub found_phase : Result ℕ Refusal → Descrambler
-found_phase (Ok p) = Verification 16 p
+found_phase (Ok p) = Verification found_at p
 found_phase (Err e) = Acquisition 0
 
 abbrev pub acquire : Bool → ℕ → ℕ → Descrambler
-acquire a c u = cond a (cond (nat_lt c 15) (Acquisition (c + 1)) (found_phase (found (u % 2 ^ 31)))) (Acquisition 0)
+acquire a c u = cond a (cond (nat_lt (c + 1) found_at) (Acquisition (c + 1)) (found_phase (found (u % 2 ^ 31)))) (Acquisition 0)
 
 -- up by one to Steady at 24, or down by one, and below 8 back to Acquisition; a header that disagrees leaves the confidence
 abbrev pub verify : Bool → Bool → ℕ → ℕ → Descrambler
 verify a m c p =
-    cond a (cond m (cond (nat_lt c 23) (Verification (c + 1) p) (Steady 24 p)) (cond (nat_lt 8 c) (Verification (c - 1) p) (Acquisition 0)))
+    cond a
+    (cond m (cond (nat_lt (c + 1) steady_at) (Verification (c + 1) p) (Steady steady_at p))
+    (cond (nat_lt least_in_verification c) (Verification (c - 1) p) (Acquisition 0)))
     (Verification c p)
 
 -- down by one, and below 16 back to Acquisition; or up by one, to at most 24
 abbrev pub hold : Bool → ℕ → ℕ → Descrambler
-hold f c p = cond f (cond (nat_lt 16 c) (Steady (c - 1) p) (Acquisition 0)) (Steady (cond (nat_lt c 24) (c + 1) 24) p)
+hold f c p = cond f (cond (nat_lt least_in_steady c) (Steady (c - 1) p) (Acquisition 0)) (Steady (cond (nat_lt c steady_at) (c + 1) steady_at) p)
 
 abbrev pub descrambler_after : Descrambler → ℕ → ℕ → Descrambler
 descrambler_after (Acquisition c) u w = acquire (agrees w) c u
 descrambler_after (Verification c p) u w = verify (agrees w) (samples_in w == predicted (next_phase p)) c (next_phase p)
 descrambler_after (Steady c p) u w = hold (sample_fault (freed (next_phase p) w)) c (next_phase p)
+
+abbrev pub at_next_cell : Descrambler → Descrambler
+at_next_cell (Acquisition c) = Acquisition c
+at_next_cell (Verification c p) = Verification c (next_phase p)
+at_next_cell (Steady c p) = Steady c (next_phase p)
 
 abbrev pub phase_of : Descrambler → Option ℕ
 phase_of (Acquisition c) = None
@@ -76,6 +120,9 @@ phase_of (Steady c p) = Some p
 -- two bits a header, in 32 bits
 unfoldable pub sampled : ℕ → ℕ → ℕ
 sampled u w = u % 2 ^ 30 * 2 ^ 2 + samples_in w
+
+abbrev pub at_header : Lock → ℕ → Lock
+at_header l w = record { delineation = l.delineation; descrambler = at_next_cell l.descrambler; samples = sampled l.samples w }
 
 -- ---- the boundary
 
@@ -87,15 +134,31 @@ is_clean Clean = true
 is_clean (OneWrongBit i) = false
 is_clean PastMending = false
 
+abbrev pub in_mode : Mode → Verdict → Verdict
+in_mode m Clean = Clean
+in_mode Correction (OneWrongBit i) = OneWrongBit i
+in_mode Detection (OneWrongBit i) = PastMending
+in_mode m PastMending = PastMending
+
+abbrev pub verdict_in : Descrambler → Mode → ℕ → Verdict
+verdict_in (Acquisition c) m w = cond (agrees w) Clean PastMending
+verdict_in (Verification c p) m w = cond (agrees w) Clean PastMending
+verdict_in (Steady c p) m w = in_mode m (verdict_at p w)
+
 abbrev pub right : Descrambler → ℕ → Bool
 right (Acquisition c) w = agrees w
 right (Verification c p) w = agrees w
 right (Steady c p) w = is_clean (verdict_at (next_phase p) w)
 
--- eight right headers in a row lead from PRESYNC to SYNC, a wrong one to HUNT; seven wrong ones in a row from SYNC to HUNT
+abbrev pub confirmed : Delineation → Delineation
+confirmed (Presync n) = cond (nat_lt (n + 1) confirmations) (Presync (n + 1)) (Sync 0)
+confirmed (Sync n) = Sync 0
+
+-- eight right headers in a row lead from PRESYNC to SYNC, a wrong one to HUNT; seven wrong ones in a row from SYNC to HUNT. PRESYNC goes by right
+-- headers in every state of the descrambler: in Steady these would be the clean ones, but PRESYNC is never in Steady
 abbrev pub delineation_after : Delineation → Bool → Option Delineation
-delineation_after (Presync n) r = cond r (Some (cond (nat_lt n 7) (Presync (n + 1)) (Sync 0))) None
-delineation_after (Sync n) r = cond r (Some (Sync 0)) (cond (nat_lt n 6) (Some (Sync (n + 1))) None)
+delineation_after (Presync n) r = cond r (Some (confirmed (Presync n))) None
+delineation_after (Sync n) r = cond r (Some (confirmed (Sync n))) (cond (nat_lt (n + 1) wrong_to_hunt) (Some (Sync (n + 1))) None)
 
 -- ---- mending, in Steady
 

@@ -3,7 +3,9 @@
 --   hunted n w             hunting: once 40 bits have come (n), a header w that agrees ends the hunt; else it goes on
 --   control_after m a n w  the state after a bit that fell at the place a, where w are the last 40 bits with it
 --   unmasked p xs          the payload xs descrambled at the phase p, or as it is where there is none
+--   descrambled h l xs     the payload xs of a cell that is kept, with the header h, or not: only that of a kept one is descrambled
 --   filled a w xs          the payload xs with that bit: each whole octet goes to its place, and the last bit of a kept cell descrambles it
+--   cell_ends h            what the last bit of a cell brings: the cell, if it is kept with the header h, or nothing
 --   brought m a n w        what the bit brings: a header and its events, the last bit of a kept cell, or nothing
 --   moved a s              the end s after its newest bit, which fell at the place a
 --   brings_at a s          what that bit brings

@@ -1,7 +1,8 @@
 // The rules at a header: the boundary, the descrambler, mending and the events on them, decided together.
-ghost use Rattle.std.specs.Prelude.{◌≡◌};
-ghost use Rattle.tracker.specs.Events.{boundary_event, descrambler_event, ruled, settled, decided};
-ghost use Rattle.tracker.specs.Rules.{acquire, verify, hold, delineation_after, begun, mode_on, in_step, sampled, payload_to, locked_on};
+ghost use Rattle.std.specs.Prelude.{◌≡◌, true, Some};
+ghost use Rattle.tracker.specs.Events.{cause_of, boundary_event, descrambler_event, hunt_from, decided};
+ghost use Rattle.tracker.specs.Window.{sample_fault};
+ghost use Rattle.tracker.specs.Rules.{acquire, verify, hold, confirmed, begun, mode_on, at_next_cell, at_header, verdict_in, in_step, sampled, payload_to, entered, locked_on};
 
 use crate::events::{BoundaryCause, DescramblerCause, HeaderCause, HeaderEvents};
 use crate::state::{
@@ -27,95 +28,74 @@ const PRESYNC_CONFIRMATIONS: u8 = 8;
 
 const WRONG_HEADERS_TO_HUNT: u8 = 7;
 
-// Acquisition after a header: sixteen in a row that agree give the phase.
-fn acquire(agrees: bool, confidence: u8, samples: u32) -> Descrambler
-    ensures { result ≡ acquire agrees confidence samples }
+// Acquisition after a header that agrees: sixteen in a row give the phase.
+fn acquire(confidence: u8, samples: u32) -> (Descrambler, Option<DescramblerCause>)
+    ensures next { result.0 ≡ acquire true confidence samples }
+    ensures event { result.1 ≡ descrambler_event (Descrambler.Acquisition confidence) (acquire true confidence samples) }
 {
-    if !agrees {
-        Descrambler::Acquisition(0)
-    } else if confidence < CONFIDENCE_FOUND - 1 {
-        Descrambler::Acquisition(confidence + 1)
-    } else {
-        match find_phase(samples % 0x8000_0000) {
-            Ok(phase) => Descrambler::Verification(CONFIDENCE_FOUND, phase),
-            Err(_) => Descrambler::Acquisition(0),
-        }
+    if confidence < CONFIDENCE_FOUND - 1 {
+        return (Descrambler::Acquisition(confidence + 1), None);
+    }
+    match find_phase(samples % 0x8000_0000) {
+        Ok(phase) => (
+            Descrambler::Verification(CONFIDENCE_FOUND, phase),
+            Some(DescramblerCause::Verification),
+        ),
+        Err(_) => (Descrambler::Acquisition(0), None),
     }
 }
 
-// Verification after a header.
-fn verify(agrees: bool, as_predicted: bool, confidence: u8, phase: u32) -> Descrambler
-    ensures { result ≡ verify agrees as_predicted confidence phase }
+// Verification after a header that agrees.
+fn verify(as_predicted: bool, confidence: u8, phase: u32) -> (Descrambler, Option<DescramblerCause>)
+    ensures next { result.0 ≡ verify true as_predicted confidence phase }
+    ensures event { result.1 ≡ descrambler_event (Descrambler.Verification confidence phase) (verify true as_predicted confidence phase) }
 {
-    match (agrees, as_predicted) {
-        (false, _) => Descrambler::Verification(confidence, phase),
-        (true, true) if confidence < CONFIDENCE_STEADY - 1 => {
-            Descrambler::Verification(confidence + 1, phase)
-        }
-        (true, true) => Descrambler::Steady(CONFIDENCE_STEADY, phase),
-        (true, false) if confidence > LEAST_IN_VERIFICATION => {
-            Descrambler::Verification(confidence - 1, phase)
-        }
-        (true, false) => Descrambler::Acquisition(0),
+    if as_predicted && confidence < CONFIDENCE_STEADY - 1 {
+        (Descrambler::Verification(confidence + 1, phase), None)
+    } else if as_predicted {
+        (
+            Descrambler::Steady(CONFIDENCE_STEADY, phase),
+            Some(DescramblerCause::Steady),
+        )
+    } else if confidence > LEAST_IN_VERIFICATION {
+        (Descrambler::Verification(confidence - 1, phase), None)
+    } else {
+        (
+            Descrambler::Acquisition(0),
+            Some(DescramblerCause::LeftForAcquisition),
+        )
     }
 }
 
 // Steady after a header: only wrong samples lower the confidence.
-fn hold(fault: bool, confidence: u8, phase: u32) -> Descrambler
-    ensures { result ≡ hold fault confidence phase }
+fn hold(syndrome: u8, confidence: u8, phase: u32) -> (Descrambler, Option<DescramblerCause>)
+    ensures next { result.0 ≡ hold (sample_fault syndrome) confidence phase }
+    ensures event { result.1 ≡ descrambler_event (Descrambler.Steady confidence phase) (hold (sample_fault syndrome) confidence phase) }
 {
+    let fault = sample_fault(syndrome);
     if fault && confidence > LEAST_IN_STEADY {
-        Descrambler::Steady(confidence - 1, phase)
+        (Descrambler::Steady(confidence - 1, phase), None)
     } else if fault {
-        Descrambler::Acquisition(0)
+        (
+            Descrambler::Acquisition(0),
+            Some(DescramblerCause::LeftForAcquisition),
+        )
     } else if confidence < CONFIDENCE_STEADY {
-        Descrambler::Steady(confidence + 1, phase)
+        (Descrambler::Steady(confidence + 1, phase), None)
     } else {
-        Descrambler::Steady(CONFIDENCE_STEADY, phase)
+        (Descrambler::Steady(CONFIDENCE_STEADY, phase), None)
     }
 }
 
-impl Delineation {
-    // The boundary after a header; none is assumed in HUNT.
-    fn after(self, right: bool) -> Option<Delineation>
-        ensures { result ≡ delineation_after self right }
-    {
-        match (self, right) {
-            (Delineation::Presync(n), true) if n < PRESYNC_CONFIRMATIONS - 1 => {
-                Some(Delineation::Presync(n + 1))
-            }
-            (_, true) => Some(Delineation::Sync(0)),
-            (Delineation::Sync(n), false) if n < WRONG_HEADERS_TO_HUNT - 1 => {
-                Some(Delineation::Sync(n + 1))
-            }
-            (_, false) => None,
-        }
-    }
-}
-
-fn boundary_event(from: Delineation, to: Option<Delineation>) -> Option<BoundaryCause>
-    ensures { result ≡ boundary_event from to }
+// The mode after a header in Steady: one that is not clean sets detection mode, and is mended or discarded.
+fn mend(verdict: Verdict) -> (Mode, Option<HeaderCause>)
+    ensures next { result.0 ≡ mode_on verdict }
+    ensures event { result.1 ≡ cause_of verdict }
 {
-    match (from, to) {
-        (Delineation::Presync(_), None) => Some(BoundaryCause::LostFromPresync),
-        (Delineation::Presync(_), Some(Delineation::Sync(_))) => Some(BoundaryCause::Sync),
-        (Delineation::Sync(_), None) => Some(BoundaryCause::LostFromSync),
-        _ => None,
-    }
-}
-
-fn descrambler_event(from: Descrambler, to: Descrambler) -> Option<DescramblerCause>
-    ensures { result ≡ descrambler_event from to }
-{
-    match (from, to) {
-        (Descrambler::Acquisition(_), Descrambler::Acquisition(_)) => None,
-        (_, Descrambler::Acquisition(_)) => Some(DescramblerCause::LeftForAcquisition),
-        (Descrambler::Acquisition(_), Descrambler::Verification(_, _)) => Some(
-            DescramblerCause::Verification,
-        ),
-        (_, Descrambler::Verification(_, _)) => None,
-        (Descrambler::Steady(_, _), _) => None,
-        _ => Some(DescramblerCause::Steady),
+    match verdict {
+        Verdict::Clean => (Mode::Correction, None),
+        Verdict::OneWrongBit(_) => (Mode::Detection, Some(HeaderCause::Mended)),
+        Verdict::PastMending => (Mode::Detection, Some(HeaderCause::Discarded)),
     }
 }
 
@@ -129,27 +109,52 @@ fn mode_begun(descrambler: Descrambler, mode: Mode) -> Mode
     }
 }
 
-// The mode after a header in Steady.
-fn mode_on(verdict: Verdict) -> Mode
-    ensures { result ≡ mode_on verdict }
-{
-    match verdict {
-        Verdict::Clean => Mode::Correction,
-        Verdict::OneWrongBit(_) | Verdict::PastMending => Mode::Detection,
+impl Delineation {
+    // The boundary after a right header, which PRESYNC counts, and which ends SYNC's row of wrong ones.
+    fn confirm(self) -> (Delineation, Option<BoundaryCause>)
+        ensures next { result.0 ≡ confirmed self }
+        ensures event { result.1 ≡ boundary_event self (Some (confirmed self)) }
+    {
+        match self {
+            Delineation::Presync(n) if n < PRESYNC_CONFIRMATIONS - 1 => {
+                (Delineation::Presync(n + 1), None)
+            }
+            Delineation::Presync(_) => (Delineation::Sync(0), Some(BoundaryCause::Sync)),
+            Delineation::Sync(_) => (Delineation::Sync(0), None),
+        }
     }
 }
 
-// What the rules say of a header.
-#[derive(Clone, Copy, Debug)]
-struct Decision {
-    // none is assumed in HUNT
-    boundary: Option<Delineation>,
-    descrambler: Descrambler,
-    samples: u32,
-    mode: Mode,
-    cause: Option<HeaderCause>,
-    // the header of the cell, where it is valid or mended
-    taken: Option<Header>,
+impl Descrambler {
+    // The same at the phase of the next cell, once its header has come.
+    fn at_next_cell(self) -> Descrambler
+        ensures { result ≡ at_next_cell self }
+    {
+        match self {
+            Descrambler::Acquisition(_) => self,
+            Descrambler::Verification(confidence, phase) => {
+                Descrambler::Verification(confidence, next_phase(phase))
+            }
+            Descrambler::Steady(confidence, phase) => {
+                Descrambler::Steady(confidence, next_phase(phase))
+            }
+        }
+    }
+
+    // The verdict on the header of this cell: a header is right exactly where it is clean. In Steady it is that on the freed syndrome, and
+    // in detection mode one wrong bit is past mending; in the other states a header is clean where it agrees, and none is mended.
+    fn verdict(self, mode: Mode, window: Window) -> Verdict
+        ensures { result ≡ verdict_in self mode window.bits }
+    {
+        match self {
+            Descrambler::Steady(_, phase) => match (mode, Verdict::from(window.freed(phase))) {
+                (Mode::Detection, Verdict::OneWrongBit(_)) => Verdict::PastMending,
+                (_, verdict) => verdict,
+            },
+            _ if window.agrees() => Verdict::Clean,
+            _ => Verdict::PastMending,
+        }
+    }
 }
 
 // The samples of the last sixteen headers, with those of one header more.
@@ -182,116 +187,134 @@ impl Lock {
         )
     }
 
-    // The state after a header and the events on it, decided together.
+    // The same once a header has come: with its samples, and at the phase of its cell.
+    fn at_header(self, window: Window) -> Lock
+        ensures { result ≡ at_header self window.bits }
+    {
+        Lock {
+            delineation: self.delineation,
+            descrambler: self.descrambler.at_next_cell(),
+            samples: sampled(self.samples, window),
+        }
+    }
+
+    // The state after a header and the events on it, decided together by the state before it and the verdict on it. PRESYNC is never in Steady, but
+    // the same rules would hold there.
     pub(crate) fn take_header(self, mode: Mode, window: Window) -> Headed
         ensures { result ≡ decided mode self window.bits }
     {
-        self.settle(self.decide(mode, window))
-    }
-
-    // What the rules say of a header, by the state before it and, in Steady, the verdict on the header.
-    fn decide(self, mode: Mode, window: Window) -> Decision
-        ensures { result ≡ ruled mode self window.bits }
-    {
-        let samples = sampled(self.samples, window);
-        match (self.delineation, self.descrambler) {
-            (boundary, Descrambler::Acquisition(confidence)) => {
-                let agrees = window.agrees();
-                Decision {
-                    boundary: boundary.after(agrees),
-                    descrambler: acquire(agrees, confidence, samples),
-                    samples,
-                    mode,
-                    cause: None,
-                    taken: None,
-                }
+        let lock = self.at_header(window);
+        let verdict = lock.descrambler.verdict(mode, window);
+        match (lock.delineation, lock.descrambler, verdict) {
+            // a wrong header loses PRESYNC, and the seventh in a row SYNC
+            (Delineation::Presync(_), _, Verdict::OneWrongBit(_) | Verdict::PastMending) => {
+                lock.hunt(BoundaryCause::LostFromPresync, mode, verdict)
             }
-            (boundary, Descrambler::Verification(confidence, phase)) => {
-                let phase = next_phase(phase);
-                let agrees = window.agrees();
-                let as_predicted = window.is_as_predicted(phase);
-                let descrambler = verify(agrees, as_predicted, confidence, phase);
-                Decision {
-                    boundary: boundary.after(agrees),
-                    descrambler,
-                    samples,
-                    mode: mode_begun(descrambler, mode),
-                    cause: None,
-                    taken: None,
-                }
+            (Delineation::Sync(n), _, Verdict::OneWrongBit(_) | Verdict::PastMending)
+                if n >= WRONG_HEADERS_TO_HUNT - 1 => {
+                lock.hunt(BoundaryCause::LostFromSync, mode, verdict)
             }
-            (boundary, Descrambler::Steady(confidence, phase)) => {
-                let phase = next_phase(phase);
-                let syndrome = window.freed(phase);
-                let verdict = Verdict::from(syndrome);
-                let descrambler = hold(sample_fault(syndrome), confidence, phase);
-                match (mode, verdict) {
-                    (_, Verdict::Clean) => Decision {
-                        boundary: boundary.after(true),
-                        descrambler,
-                        samples,
-                        mode: mode_on(verdict),
-                        cause: None,
-                        taken: Some(window.header(phase)),
-                    },
-                    (Mode::Correction, Verdict::OneWrongBit(bit)) => Decision {
-                        boundary: boundary.after(false),
-                        descrambler,
-                        samples,
-                        mode: mode_on(verdict),
-                        cause: Some(HeaderCause::Mended),
-                        taken: Some(window.mended(phase, bit)),
-                    },
-                    (Mode::Detection, Verdict::OneWrongBit(_)) | (_, Verdict::PastMending) =>
-                        Decision {
-                            boundary: boundary.after(false),
-                            descrambler,
-                            samples,
-                            mode: mode_on(verdict),
-                            cause: Some(HeaderCause::Discarded),
-                            taken: None,
-                        },
+            // those before the seventh are counted
+            (
+                Delineation::Sync(n),
+                Descrambler::Acquisition(_),
+                Verdict::OneWrongBit(_) | Verdict::PastMending,
+            ) => {
+                let next = (Descrambler::Acquisition(0), None);
+                lock.enter((Delineation::Sync(n + 1), None), next, (mode, None), None)
+            }
+            (
+                Delineation::Sync(n),
+                Descrambler::Verification(_, _),
+                Verdict::OneWrongBit(_) | Verdict::PastMending,
+            ) => {
+                let next = (lock.descrambler, None);
+                lock.enter((Delineation::Sync(n + 1), None), next, (mode, None), None)
+            }
+            (
+                Delineation::Sync(n),
+                Descrambler::Steady(confidence, phase),
+                Verdict::OneWrongBit(bit),
+            ) => {
+                let next = hold(window.freed(phase), confidence, phase);
+                let taken = Some(window.mended(phase, bit));
+                lock.enter((Delineation::Sync(n + 1), None), next, mend(verdict), taken)
+            }
+            (Delineation::Sync(n), Descrambler::Steady(confidence, phase), Verdict::PastMending) =>
+                {
+                    let next = hold(window.freed(phase), confidence, phase);
+                    lock.enter((Delineation::Sync(n + 1), None), next, mend(verdict), None)
                 }
+            // a right one is counted in PRESYNC, and ends SYNC's row of wrong ones
+            (boundary, Descrambler::Acquisition(confidence), Verdict::Clean) => {
+                let next = acquire(confidence, lock.samples);
+                lock.enter(boundary.confirm(), next, (mode, None), None)
+            }
+            (boundary, Descrambler::Verification(confidence, phase), Verdict::Clean) => {
+                let next = verify(window.is_as_predicted(phase), confidence, phase);
+                let mode = mode_begun(next.0, mode);
+                lock.enter(boundary.confirm(), next, (mode, None), None)
+            }
+            (boundary, Descrambler::Steady(confidence, phase), Verdict::Clean) => {
+                let next = hold(window.freed(phase), confidence, phase);
+                let taken = Some(window.header(phase));
+                lock.enter(boundary.confirm(), next, mend(verdict), taken)
             }
         }
     }
 
-    // The state that a decision leads to, and the events on the way from this one to it. The cell is kept if its header was taken and
-    // the end is in step both before and after.
-    fn settle(self, decision: Decision) -> Headed
-        ensures { result ≡ settled self decision }
+    // HUNT, after a wrong header that loses the boundary. The phase is lost with it.
+    fn hunt(self, cause: BoundaryCause, mode: Mode, verdict: Verdict) -> Headed
+        ensures { result ≡ hunt_from self.descrambler cause mode verdict }
     {
-        let boundary = boundary_event(self.delineation, decision.boundary);
-        match decision.boundary {
-            None => Headed {
-                control: Control {
-                    mode: decision.mode,
-                    place: Place::Hunt,
-                },
-                events: HeaderEvents {
-                    header: decision.cause,
-                    boundary,
-                    descrambler: descrambler_event(self.descrambler, Descrambler::Acquisition(0)),
-                },
-            },
-            Some(delineation) => {
-                let next = Lock {
-                    delineation,
-                    descrambler: decision.descrambler,
-                    samples: decision.samples,
-                };
-                Headed {
-                    control: Control {
-                        mode: decision.mode,
-                        place: self.payload_to(next, decision.taken),
-                    },
-                    events: HeaderEvents {
-                        header: decision.cause,
-                        boundary,
-                        descrambler: descrambler_event(self.descrambler, decision.descrambler),
-                    },
-                }
+        let ((mode, header), descrambler) = match self.descrambler {
+            Descrambler::Acquisition(_) => ((mode, None), None),
+            Descrambler::Verification(_, _) => {
+                ((mode, None), Some(DescramblerCause::LeftForAcquisition))
             }
+            Descrambler::Steady(_, _) => {
+                (mend(verdict), Some(DescramblerCause::LeftForAcquisition))
+            }
+        };
+        Headed {
+            control: Control {
+                mode,
+                place: Place::Hunt,
+            },
+            events: HeaderEvents {
+                header,
+                boundary: Some(cause),
+                descrambler,
+            },
+        }
+    }
+
+    // The payload after a header that leaves a boundary, by what each layer has come to, with the event on the way.
+    fn enter(
+        self,
+        boundary: (Delineation, Option<BoundaryCause>),
+        descrambler: (Descrambler, Option<DescramblerCause>),
+        header: (Mode, Option<HeaderCause>),
+        taken: Option<Header>,
+    ) -> Headed
+        ensures control { result.control ≡ entered self taken descrambler.0 self.samples header.0 (Some boundary.0) }
+        ensures events { result.events ≡ record { header = header.1; boundary = boundary.1; descrambler = descrambler.1 } }
+    {
+        let next = Lock {
+            delineation: boundary.0,
+            descrambler: descrambler.0,
+            samples: self.samples,
+        };
+        Headed {
+            control: Control {
+                mode: header.0,
+                place: self.payload_to(next, taken),
+            },
+            events: HeaderEvents {
+                header: header.1,
+                boundary: boundary.1,
+                descrambler: descrambler.1,
+            },
         }
     }
 

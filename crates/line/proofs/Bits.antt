@@ -137,7 +137,3 @@ pub length-bits_of : (os : List ℕ) → length (bits_of os) ≡ 8 * length os
 unfolding octet_bits
 length-bits_of [] = refl
 length-bits_of (o ∷ os) = let h = length-bits_of os in omega arith
-
-pub bits_of-append : (xs ys : List ℕ) → bits_of (xs ++ ys) ≡ bits_of xs ++ bits_of ys
-bits_of-append [] ys = refl
-bits_of-append (x ∷ xs) ys = ap (λ (z : List Bool). octet_bits x ++ z) (bits_of-append xs ys) ∙ sym (append_assoc (octet_bits x) (bits_of xs) (bits_of ys))

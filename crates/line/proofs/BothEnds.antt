@@ -10,6 +10,7 @@ use Rattle.receiver.specs.Book.{Log, bit_counted, booked, posted, brought, noted
 use Rattle.receiver.specs.Feed.{log}
 use Rattle.receiver.specs.Handing.{Reply, Moment, bits}
 use Rattle.receiver.specs.Run.{step, after}
+use Rattle.receiver.proofs.Runs.{after-append, bits-append}
 use Rattle.line.specs.Heard.{Heard}
 use Rattle.line.specs.Laws.{LawsThroughout, mended_only}
 use Rattle.line.specs.Receiving as receiving
@@ -17,7 +18,6 @@ use Rattle.line.specs.Receiving.{heard}
 use Rattle.line.specs.Sending as sending
 use Rattle.line.specs.Theorem.{MendedTold, Received, Sent, LineTheorem}
 use Rattle.line.proofs.Histories.{history_stands, each_stretch}
-use Rattle.line.proofs.Runs.{after-append, bits-append}
 use Rattle.line.proofs.Streams.{streams-sent}
 
 -- ---- a mended header

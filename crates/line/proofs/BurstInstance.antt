@@ -9,13 +9,14 @@ use Rattle.tracker.specs.declared.tracker.Tracker.{Tracker}
 use Rattle.tracker.specs.Tracker.{start}
 use Rattle.receiver.specs.Handing.{Moment, bits}
 use Rattle.receiver.specs.Run.{bits_of, after}
+use Rattle.receiver.proofs.Runs.{bits_of-append}
 use Rattle.line.specs.Heard.{join}
 use Rattle.line.specs.Instances.{BurstArrives}
 use Rattle.line.specs.Laws.{header_bits, payload_bits, complete, last_bit, Right, Follows, Undamaged}
 use Rattle.line.specs.Receiving.{heard}
 use Rattle.line.specs.Sending as sending
 use Rattle.line.specs.Sending.{History, sent}
-use Rattle.line.proofs.Bits.{bits_of-append, length-bits_of}
+use Rattle.line.proofs.Bits.{length-bits_of}
 use Rattle.line.proofs.Carried.{CarriedOn}
 use Rattle.line.proofs.CodeFacts.{code_laws}
 use Rattle.line.proofs.CodeLaws.{moved}

@@ -21,9 +21,9 @@ use Rattle.tracker.specs.Window.{counted, shifted}
 use Rattle.tracker.specs.Rules.{headed, phase_of}
 use Rattle.tracker.specs.Tracker.{control_after, descrambled, brought, cell_ends, bit_step, unmasked}
 use Rattle.receiver.specs.Run.{step, after, offered, kept_cell, cell_in, user_cell}
+use Rattle.receiver.proofs.Runs.{after-append}
 use Rattle.line.proofs.Bits.{value, octets_of, window_header}
 use Rattle.line.proofs.Cells.{at, At, Cut, cut_bits, paying, on, on_length, pay_next, head_next, step_control, pay_run, head_run, place_long, long_run, nil_of, payload_run}
-use Rattle.line.proofs.Runs.{after-append}
 
 pay_quiet : (m : Mode) (j : ℕ) (k : Option headers.Header) (l : Lock) (n w : ℕ) → brought m (paying (suc j) k l) n w ≡ None
 pay_quiet m j k l n w = go (dec_lt 0 (suc j % 8))

@@ -10,9 +10,10 @@ use Rattle.sender.specs.Sender.{Octets}
 use Rattle.sender.specs.Stream.{Send, SentStream, line_of}
 use Rattle.sender.proofs.Streams.{stream_laws}
 use Rattle.receiver.specs.Run.{bits_of}
+use Rattle.receiver.proofs.Runs.{bits_of-append}
 use Rattle.line.specs.Heard.{join}
 use Rattle.line.specs.Laws.{Undamaged}
-use Rattle.line.proofs.Bits.{bits_of-append, length-bits_of, octets_of_lem, octets_of}
+use Rattle.line.proofs.Bits.{length-bits_of, octets_of_lem, octets_of}
 
 -- ---- lines of octets
 

@@ -8,10 +8,11 @@ use Rattle.tracker.specs.Tracker.{start}
 use Rattle.receiver.specs.declared.receiver.Receiver.{Receiver}
 use Rattle.receiver.specs.Handing.{Moment, bits}
 use Rattle.receiver.specs.Run.{after}
+use Rattle.receiver.proofs.Runs.{after-append, bits-append}
 use Rattle.line.specs.Heard.{Heard}
 use Rattle.line.specs.Receiving as call
 use Rattle.line.specs.Receiving.{Feed, Call, Feeding, Calls, History, made, called, Stretches, moments_of, heard_with, heard, stretches}
-use Rattle.line.proofs.Runs.{after-append, bits-append, heard-append, heard_along}
+use Rattle.line.proofs.Runs.{heard-append, heard_along}
 
 -- what a receiving end has heard, stretch by stretch, and where its tracker stands
 pub record Stands (r : Receiver) (s : Stretches) : Type 0 where

@@ -18,6 +18,7 @@ use Rattle.tracker.specs.Rules.{found_phase, sampled, locked_on}
 use Rattle.tracker.specs.Tracker.{start}
 use Rattle.receiver.specs.Run.{bits_of, step, after}
 use Rattle.receiver.specs.Handing.{Moment, bits}
+use Rattle.receiver.proofs.Runs.{after-append}
 use Rattle.line.specs.Heard.{Heard, Gains, ReadyAt, Begins}
 use Rattle.line.specs.Laws.{header_bits, payload_bits, complete, ReadyFrom, StreamGained}
 use Rattle.line.proofs.Bits.{value, window_header}
@@ -27,7 +28,7 @@ use Rattle.line.proofs.CodeLaws.{CodeLaws, moved, trail}
 use Rattle.line.proofs.Frames.{sent_user, frames, flat_frames, sized_frames, from_cell, from_none, from_gained, SentAt, sent_at}
 use Rattle.line.proofs.Gained.{hands_of, all_gained}
 use Rattle.line.proofs.Offers.{Brings, Sized, flat, rows_offers, brings_long, flat_long}
-use Rattle.line.proofs.Runs.{after-append, length-bits, heard-rest}
+use Rattle.line.proofs.Runs.{length-bits, heard-rest}
 use Rattle.line.proofs.Sends.{stream_carried, header_long_lem, payload_long_lem, header_agrees, header_samples}
 use Rattle.line.proofs.SentHeaders.{steady, verifying, acquiring, bound_at, bound_next, verify_next, verify_last, acquire_next, sampled_trail, sampled_first, steady_sent, hunt_ends_lem, sent_up}
 

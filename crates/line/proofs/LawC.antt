@@ -12,6 +12,7 @@ use Rattle.tracker.specs.declared.tracker.Tracker.{Tracker}
 use Rattle.tracker.specs.Tracker.{start}
 use Rattle.receiver.specs.Run.{bits_of, after}
 use Rattle.receiver.specs.Handing.{Moment, bits}
+use Rattle.receiver.proofs.Runs.{after-append, bits-append}
 use Rattle.line.specs.Heard.{Heard, ReadyAt, Begins, join}
 use Rattle.line.specs.Laws.{header_bits, complete, InStep, Right, Follows, Undamaged, StaysInStep, BurstSurvived}
 use Rattle.line.proofs.Bits.{value}
@@ -24,7 +25,7 @@ use Rattle.line.proofs.SentHeaders.{synced}
 use Rattle.line.proofs.Offers.{flat, Sized, rows_offers}
 use Rattle.line.proofs.Reached.{fine_run}
 use Rattle.line.proofs.RightHeader.{Cleared, right_clears}
-use Rattle.line.proofs.Runs.{after-append, bits-append, bits-take, length-bits, heard-rest}
+use Rattle.line.proofs.Runs.{bits-take, length-bits, heard-rest}
 use Rattle.line.proofs.Sends.{stream_carried, carried_at, header_long_lem, header_agrees, header_clean, sent_user_is}
 use Rattle.line.proofs.Survives.{frames_of, lines_of, Survives, Same, survives}
 use Rattle.line.proofs.Puts.{gained}

@@ -21,15 +21,15 @@ use Rattle.tracker.specs.Window.{agrees, counted, shifted}
 use Rattle.tracker.specs.Rules.{found_phase, sampled, headed, locked_on}
 use Rattle.tracker.specs.Tracker.{start, hunted, control_after}
 use Rattle.receiver.specs.Run.{bits_of, step, after}
+use Rattle.receiver.proofs.Runs.{after-append, bits_of-append}
 use Rattle.line.specs.Headers.{hunting}
 use Rattle.line.specs.Laws.{header_bits, payload_bits}
-use Rattle.line.proofs.Bits.{value, window_header, bits_of-append}
+use Rattle.line.proofs.Bits.{value, window_header}
 use Rattle.line.proofs.Carried.{Carried, CarriedOn}
 use Rattle.line.proofs.Cells.{at, At, long_run, Cut, cut_bits, nil_of}
 use Rattle.line.proofs.CodeLaws.{CodeLaws, moved, trail}
 use Rattle.line.proofs.SentHeaders.{synced, steady, verifying, acquiring, bound_at, bound_next, verify_next, verify_last, acquire_next, sampled_trail, sampled_first, steady_sent}
 use Rattle.line.proofs.Offers.{whole_of}
-use Rattle.line.proofs.Runs.{after-append}
 use Rattle.line.proofs.Sends.{cell_bits, moved_next, header_long_lem, payload_long_lem, header_agrees, header_samples}
 
 abbrev pub between : Send → List Send → List Bool

@@ -17,9 +17,9 @@ use Rattle.tracker.specs.declared.state.Place.TheVariants.{Payload, Header}
 use Rattle.tracker.specs.declared.tracker.Tracker.{Tracker}
 use Rattle.tracker.specs.Rules.{headed}
 use Rattle.receiver.specs.Run.{step, after, user_cell}
+use Rattle.receiver.proofs.Runs.{after-append}
 use Rattle.line.specs.Heard.{Begins}
 use Rattle.line.proofs.Bits.{value}
-use Rattle.line.proofs.Runs.{after-append}
 use Rattle.line.proofs.CellOffers.{offers, Quiet, offers_append, length_offers, pay_offers, head_offers, offered_last, cell_from, heads}
 use Rattle.line.proofs.Cells.{at, At, Cut, cut_bits, paying, on, on_length}
 

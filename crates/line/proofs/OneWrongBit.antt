@@ -25,6 +25,7 @@ use Rattle.tracker.specs.Events.{header_cause, boundary_event, descrambler_event
 use Rattle.tracker.specs.Tracker.{start, control_after, brought, bit_brings}
 use Rattle.receiver.specs.Run.{step, after, offered}
 use Rattle.receiver.specs.Handing.{Moment, bits}
+use Rattle.receiver.proofs.Runs.{after-append, bits-append}
 use Rattle.line.specs.Heard.{Heard, Gains, ReadyAt}
 use Rattle.line.specs.Laws.{header_bits, payload_bits, InStep, Right, differing, mended_only, Restored, OneBitMended}
 use Rattle.line.proofs.Bits.{value, window_header}
@@ -38,7 +39,7 @@ use Rattle.line.proofs.SentHeaders.{synced, sent_up}
 use Rattle.line.proofs.LawC.{right_cleared}
 use Rattle.line.proofs.Offers.{Body, body as payload-first}
 use Rattle.line.proofs.RightHeader.{Cleared}
-use Rattle.line.proofs.Runs.{after-append, bits-append, length-bits, heard_front, heard-rest}
+use Rattle.line.proofs.Runs.{length-bits, heard_front, heard-rest}
 use Rattle.line.proofs.Sends.{stream_carried, header_long_lem, payload_long_lem, header_clean, header_descrambled, sent_user_is}
 use Rattle.line.proofs.Survives.{hold_any}
 

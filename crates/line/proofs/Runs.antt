@@ -6,14 +6,6 @@ use Rattle.receiver.specs.Run.{step, after}
 use Rattle.receiver.specs.Handing.{Moment, bits, Along}
 use Rattle.line.specs.Heard.{Heard}
 
-pub after-append : (s : Tracker) (xs ys : List Bool) → after s (xs ++ ys) ≡ after (after s xs) ys
-after-append s [] ys = refl
-after-append s (x ∷ xs) ys = after-append (step s x) xs ys
-
-pub bits-append : (xs ys : List Moment) → bits (xs ++ ys) ≡ bits xs ++ bits ys
-bits-append [] ys = refl
-bits-append (x ∷ xs) ys = ap (λ l. x.bit ∷ l) (bits-append xs ys)
-
 pub length-bits : (ms : List Moment) → length (bits ms) ≡ length ms
 length-bits [] = refl
 length-bits (m ∷ ms) = ap suc (length-bits ms)

@@ -14,8 +14,9 @@ use Rattle.sender.specs.Stream.{Send, SentStream, CellLaws, line_of, lost_to, lo
 use Rattle.sender.proofs.Streams.{stream_laws}
 use Rattle.tracker.specs.Window.{agrees, samples_in, predicted, freed, header_in}
 use Rattle.receiver.specs.Run.{bits_of, user_by, user_cell}
+use Rattle.receiver.proofs.Runs.{bits_of-append}
 use Rattle.line.specs.Laws.{header_bits, payload_bits}
-use Rattle.line.proofs.Bits.{value, octets_of, bits_of-append, length-bits_of}
+use Rattle.line.proofs.Bits.{value, octets_of, length-bits_of}
 use Rattle.line.proofs.Carried.{Carried, CarriedOn}
 use Rattle.line.proofs.CodeLaws.{CodeLaws, head_octets, head_word, moved}
 

@@ -30,6 +30,7 @@ use Rattle.tracker.specs.declared.tracker.Tracker.{Tracker}
 use Rattle.tracker.specs.Window.{freed, sample_fault, header_in}
 use Rattle.tracker.specs.Rules.{hold, is_clean, verdict_at, delineation_after, mode_on, taken_by, entered, sampled, headed}
 use Rattle.receiver.specs.Run.{bits_of, after, user_cell}
+use Rattle.receiver.proofs.Runs.{after-append}
 use Rattle.line.specs.Heard.{Begins}
 use Rattle.line.specs.Laws.{InStep}
 use Rattle.line.proofs.Bits.{value}
@@ -41,7 +42,6 @@ use Rattle.line.proofs.Frames.{sent_user}
 use Rattle.line.proofs.SentHeaders.{synced, clean_taken, sent_up}
 use Rattle.line.proofs.Offers.{Frame, flat, Brings, first_of, whole_of}
 use Rattle.line.proofs.Reached.{raised, raised_is}
-use Rattle.line.proofs.Runs.{after-append}
 use Rattle.line.proofs.Sends.{moved_next, header_clean, header_descrambled}
 
 -- ---- any header, and a right one

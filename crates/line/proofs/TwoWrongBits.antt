@@ -25,6 +25,7 @@ use Rattle.tracker.specs.Rules.{both, in_step, is_clean, verdict_at, delineation
 use Rattle.tracker.specs.Tracker.{start, control_after, brought, bit_step}
 use Rattle.receiver.specs.Run.{step, after, offered, kept_cell, cell_in, user_cell}
 use Rattle.receiver.specs.Handing.{Moment, bits}
+use Rattle.receiver.proofs.Runs.{after-append, bits-append}
 use Rattle.line.specs.Heard.{Begins}
 use Rattle.line.specs.Laws.{header_bits, InStep, differing, TwoBitsDiscarded}
 use Rattle.line.proofs.Bits.{value}
@@ -33,7 +34,7 @@ use Rattle.line.proofs.Cells.{long_run}
 use Rattle.line.proofs.CodeLaws.{CodeLaws}
 use Rattle.line.proofs.SentHeaders.{synced}
 use Rattle.line.proofs.Offers.{Frame, Whole, whole_of}
-use Rattle.line.proofs.Runs.{after-append, bits-append, length-bits}
+use Rattle.line.proofs.Runs.{length-bits}
 use Rattle.line.proofs.Sends.{stream_carried, header_long_lem, header_clean}
 use Rattle.line.proofs.Survives.{taken}
 

@@ -35,11 +35,11 @@ works_one r r' k k' ring ring' b s m g reply n es em eg et handed written en =
 
 -- ---- one run after another
 
-after-append : (s : Tracker) (bs cs : List Bool) → after s (bs ++ cs) ≡ after (after s bs) cs
+pub after-append : (s : Tracker) (bs cs : List Bool) → after s (bs ++ cs) ≡ after (after s bs) cs
 after-append s [] cs = refl
 after-append s (b ∷ bs) cs = after-append (step s b) bs cs
 
-bits-append : (xs ys : List Moment) → bits (xs ++ ys) ≡ bits xs ++ bits ys
+pub bits-append : (xs ys : List Moment) → bits (xs ++ ys) ≡ bits xs ++ bits ys
 bits-append [] ys = refl
 bits-append (x ∷ xs) ys = ap (λ l. x.bit ∷ l) (bits-append xs ys)
 
@@ -78,9 +78,9 @@ module _ {r r' r'' : Receiver} {k k' k'' : SinkState} {q q' q'' : Events} {n m :
 
 -- ---- the bits of octets
 
-bits_of_append : (xs ys : List ℕ) → bits_of (xs ++ ys) ≡ bits_of xs ++ bits_of ys
-bits_of_append [] ys = refl
-bits_of_append (x ∷ xs) ys = ap (λ l. octet_bits x ++ l) (bits_of_append xs ys) ∙ sym (append_assoc (octet_bits x) (bits_of xs) (bits_of ys))
+pub bits_of-append : (xs ys : List ℕ) → bits_of (xs ++ ys) ≡ bits_of xs ++ bits_of ys
+bits_of-append [] ys = refl
+bits_of-append (x ∷ xs) ys = ap (λ l. octet_bits x ++ l) (bits_of-append xs ys) ∙ sym (append_assoc (octet_bits x) (bits_of xs) (bits_of ys))
 
 -- the bits of the first i octets: shut, so that search goes octet by octet
 unfoldable pub first_bits : List ℕ → ℕ → List Bool
@@ -93,7 +93,7 @@ works_no_octet os r k q = works_none r k q
 -- one octet more
 bits_more : (os : List ℕ) (i : ℕ) → i < length os → bits_of (take (i + 1) os) ≡ bits_of (take i os) ++ octet_bits (get_or os i 0)
 bits_more os i h =
-    ap bits_of (take_more os i 0 h) ∙ bits_of_append (take i os) (get_or os i 0 ∷ []) ∙ ap (λ l. bits_of (take i os) ++ l) (append-nil (octet_bits (get_or os i 0)))
+    ap bits_of (take_more os i 0 h) ∙ bits_of-append (take i os) (get_or os i 0 ∷ []) ∙ ap (λ l. bits_of (take i os) ++ l) (append-nil (octet_bits (get_or os i 0)))
 
 -- a run over one octet more
 module _ {r r' r'' : Receiver} {k k' k'' : SinkState} {q q' q'' : Events} {n m : ℕ} (os : List ℕ) (i o : ℕ) where
@@ -118,4 +118,4 @@ feeds os i r r' k k' q q' n some few all h =
     positive (suc n) z = omega arith
 
 pub feed_laws : FeedLaws
-feed_laws = record { tracked = after-append; joined = λ r r' r'' k k' k'' q q' q'' bs cs n m a b. works_then a b; bits = bits_of_append }
+feed_laws = record { tracked = after-append; joined = λ r r' r'' k k' k'' q q' q'' bs cs n m a b. works_then a b; bits = bits_of-append }

@@ -5,7 +5,7 @@
 --   value bs      the number of the bits bs, the first on top (value_from n bs: below the number n)
 --   octets_of bs  the octets of the bits bs, eight by eight; a rest of fewer than eight is left out
 --   into w bs     the window w after the bits bs
-use Rattle.std.proofs.Common.{◌≡◌, ℕ, suc, ◌+◌, ◌*◌, ◌%◌, ◌^◌, ◌<◌, Bool, true, false, cond, T, eqb, List, [], ◌∷◌, ◌++◌, length, sym, refl, ap, ◌∙◌, subst, ap₂, append_assoc, add_assoc, mod-eq_of_lt, mul_assoc, mul_comm, add-mul, pow-suc, arith, eqb→eq}
+use Rattle.std.proofs.Common.{◌≡◌, ℕ, suc, ◌+◌, ◌*◌, ◌%◌, ◌^◌, ◌<◌, Bool, true, false, cond, T, eqb, List, [], ◌∷◌, ◌++◌, length, sym, refl, ap, ◌∙◌, subst, ap₂, add_assoc, mod-eq_of_lt, mul_assoc, mul_comm, add-mul, pow-suc, arith, eqb→eq}
 use Rattle.std.specs.List.{AllByRecursion}
 use Rattle.cell.specs.Tests.{below}
 use Rattle.cell.proofs.Table.{below_at}

@@ -1,23 +1,20 @@
 -- The laws of the code, from the algebra of the check octet, the generator and the phase finder.
-use Rattle.std.proofs.Common.{◌≡◌, ℕ, zero, suc, ◌+◌, ◌*◌, ◌/◌, ◌%◌, ◌^◌, ◌<◌, Bool, true, false, cond, ltb, List, [], ◌∷◌, length, Ok, Err, sym, refl, ap, ◌∙◌, subst, ap₂, mod-lt, add-one, arith, lit<, pow_pos, ltb-false, le-ltb}
+use Rattle.std.proofs.Common.{◌≡◌, ℕ, zero, suc, ◌+◌, ◌*◌, ◌/◌, ◌%◌, ◌^◌, ◌<◌, Bool, true, false, cond, ltb, List, [], ◌∷◌, length, Ok, Err, sym, refl, ap, ◌∙◌, subst, ap₂, mod-lt, arith, pow_pos, ltb-false, le-ltb}
 use lib.Bits.{bit_xor, xor_assoc, xor_self, xor_zero_r, xor_lt, xor_shifted}
 use Rattle.std.specs.List.{AllByRecursion}
-use Rattle.cell.specs.CheckOctet.{check_octet}
 use Rattle.cell.specs.LineHeader.{bits40, of_bits, syndrome_of}
-use Rattle.cell.specs.Polynomial.{remainder}
 use Rattle.cell.specs.Verdict.{agreeing, verdict_of}
 use Rattle.cell.specs.declared.line_header.LineHeader.{LineHeader}
 use Rattle.cell.specs.declared.refusal.Refusal.TheVariants.{BadSampleWord}
 use Rattle.cell.specs.declared.verdict.Verdict.TheVariants.{Clean}
-use Rattle.cell.proofs.Division.{remainder_lt}
-use Rattle.scrambler.specs.Generator.{step, back, iterate, octet_ahead, next_phase, before}
+use Rattle.scrambler.specs.Generator.{step, iterate, next_phase, before}
 use Rattle.scrambler.specs.Coding.{header_mask, sample8, sample7, samples, coded_header, masked}
 use Rattle.scrambler.specs.Finder.{samples_of, sample_word, OnePhase, times_rows, phase_rows, found}
 use Rattle.scrambler.proofs.Codes.{header_mask_lt, syndrome_is_samples, carries_samples, header_of_octets}
 use Rattle.scrambler.proofs.Masks.{ago_lt, sample7_lt}
 use Rattle.scrambler.proofs.Payloads.{length-masked, masked_twice}
 use Rattle.scrambler.proofs.Rows.{one_phase_lem}
-use Rattle.scrambler.proofs.Steps.{back_step, step_lt, steps_lt, iterate_add}
+use Rattle.scrambler.proofs.Steps.{step_lt, steps_lt}
 use Rattle.sender.specs.Sender.{Octets}
 use Rattle.sender.proofs.Octets.{masked-octets, hec_lt}
 use Rattle.sender.proofs.Phases.{backs_steps}

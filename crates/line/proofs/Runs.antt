@@ -1,5 +1,5 @@
 -- Runs of bits and moments in parts. Knows nothing of what a bit does.
-use Rattle.std.proofs.Common.{◌≡◌, ℕ, zero, suc, Bool, List, [], ◌∷◌, ◌++◌, length, take, refl, ap}
+use Rattle.std.proofs.Common.{◌≡◌, ℕ, zero, suc, List, [], ◌∷◌, ◌++◌, length, take, refl, ap}
 use Rattle.ports.specs.Sink.{SinkState}
 use Rattle.tracker.specs.declared.tracker.Tracker.{Tracker}
 use Rattle.receiver.specs.Run.{step, after}

@@ -1,11 +1,10 @@
 -- A payload that was read into a place for one octet more.
-use Rattle.std.proofs.Common.{◌≡◌, ℕ, ◌+◌, ◌<◌, ◌≤◌, List, [], ◌∷◌, ◌++◌, length, take, Some, None, Ok, Err, Option, Result, sym, ap, ◌∙◌, subst, arith}
-use Rattle.std.specs.Prelude.{MatchResult, ◌≢◌}
+use Rattle.std.proofs.Common.{◌≡◌, ℕ, ◌+◌, ◌<◌, ◌≤◌, List, [], ◌∷◌, ◌++◌, length, take, Some, None, Ok, Err, Option, sym, ap, ◌∙◌, subst, arith}
+use Rattle.std.specs.Prelude.{◌≢◌}
 use Rattle.std.proofs.lemmas.List.{append-nil, length-append, length-take-le}
 use Rattle.std.specs.Io.KnownBytes.{Consumes, IsAtEnd}
 use Rattle.send.specs.F3Payload.{PayloadAnswer}
-use Rattle.send.specs.declared.f3_payload.PayloadError.{PayloadError}
-use Rattle.send.specs.declared.f3_payload.PayloadError.TheVariants.{Unread, WrongLength}
+use Rattle.send.specs.declared.f3_payload.PayloadError.TheVariants.{WrongLength}
 
 -- all was read
 whole : (left rest : Option (List ℕ)) (octets : List ℕ) → Consumes left rest octets → IsAtEnd rest → length octets ≡ 48 → PayloadAnswer left (Ok octets)

@@ -62,7 +62,8 @@ PHASES = [1, 2, 0x3ECFEDE8, 0x40000000, LAST_PHASE]
 RESERVED = [0x00000001, 0x00000009]
 USUAL = {"--phase": 1, "--lead": 32, "--vpi": 0, "--vci": 100}
 
-SEND_PART = 20
+# Blocks have one octet for so many of the lines.
+LINE_OCTETS_TO_ONE = 20
 
 
 class Outcome(NamedTuple):
@@ -163,8 +164,8 @@ class Watched(Receiver):
 WANTED: Dict[str, List[str]] = {
     "kind": list(KINDS),
     "event": list(EVENTS.values()),
+    # a mended header never brings Acquisition: at the least confidence the header before was wrong, so the mode is detection
     "events of one header": [
-        "mended, back to acquisition",
         "discarded, back to acquisition",
         "lost from SYNC, back to acquisition",
         "discarded, lost from SYNC, back to acquisition",
@@ -334,7 +335,7 @@ def tasks_of(arguments: argparse.Namespace) -> List[Task]:
         octets += line_length(arguments.seed, number)
         number += 1
     octets, number = 0, 0
-    while octets < arguments.octets // SEND_PART or number < len(BLOCK_LENGTHS):
+    while octets < arguments.octets // LINE_OCTETS_TO_ONE or number < len(BLOCK_LENGTHS):
         tasks.append(partial(compare_block, arguments.seed, number))
         octets += block_length(block_source(arguments.seed, number), number)
         number += 1

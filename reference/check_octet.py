@@ -2,8 +2,8 @@
 
 from bits import Bits, bits_of, xor
 
-# x^8 + x^2 + x + 1
-DIVISOR = [1, 0, 0, 0, 0, 0, 1, 1, 1]
+# x^8 + x^2 + x + 1: where its ones stand, the highest power in front
+DIVISOR = [0, 6, 7, 8]
 
 # Added to the remainder, so that a run of zeros is not a header.
 COSET = bits_of(0x55, 8)
@@ -14,7 +14,8 @@ def remainder(dividend: Bits) -> Bits:
     rest = list(dividend)
     for at in range(len(rest) - 8):
         if rest[at]:
-            rest[at:at + 9] = xor(rest[at:at + 9], DIVISOR)
+            for place in DIVISOR:
+                rest[at + place] ^= 1
     return rest[-8:]
 
 

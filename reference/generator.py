@@ -1,5 +1,6 @@
 """The scrambler's generator: bits that obey U(n) = U(n - 28) xor U(n - 31), reached from any 31 in a row."""
 
+from functools import lru_cache
 from typing import Callable, List
 
 from bits import bits_of, number_of
@@ -34,6 +35,7 @@ def phase_bits(phase: int) -> List[int]:
     return bits_of(phase, PHASE_BITS)
 
 
+@lru_cache(maxsize=64)
 def around(phase: int) -> Callable[[int], int]:
     """U(t + k) by k, for all that a cell at the phase uses."""
     bits = backward(phase_bits(phase), -FIRST_USED - PHASE_BITS)
@@ -47,6 +49,7 @@ def around(phase: int) -> Callable[[int], int]:
     return at
 
 
+@lru_cache(maxsize=64)
 def next_phase(phase: int) -> int:
     """The phase of the next cell, 424 steps on."""
     return number_of(forward(phase_bits(phase), CELL_BITS)[-PHASE_BITS:])

@@ -1,15 +1,15 @@
 -- Damage to a cell of 424 bits on the line, and the words that name it. Bit 0 is the first sent: the top bit of octet 0.
 --
---   none            no bit is turned
---   octet_at bit    the octet in which a bit stands
---   mask_at bit     its place there, from the top
---   turns d bit     the damage d turns a bit
---   marked d bit    the damage d with a bit besides
---   marked_if d bit the same; none where a cell has no such bit, and where d turns it already
---   marked_by d w   the damage d with the bit besides that the word w names, if it names one
---   marked_all d ws the damage d with the bits besides that all of the words ws name, each once
---   damage_of text  the damage that the words of a text name, a blank between each two
---   turned d line   the octets of a cell on the line, with the bits of d turned
+--   none             no bit is turned
+--   octet_at bit     the octet in which a bit stands
+--   mask_at bit      its place there, from the top
+--   turns d bit      the damage d turns a bit
+--   marked d bit     the damage d with a bit besides
+--   marked_if d bit  the same; none where a cell has no such bit, and where d turns it already
+--   marked_by d w    the damage d with the bit besides that the word w names, if it names one
+--   marked_all d ws  the damage d with the bits besides that all of the words ws name, each once
+--   damage_of text   the damage that the words of a text name, a blank between each two
+--   turned d line    the octets of a cell on the line, with the bits of d turned
 use Rattle.std.specs.Prelude.{ℕ, ◌/◌, ◌%◌, ◌^◌, Bool, cond, not, List, [], ◌∷◌, map, replicate, Some, None, Option, ◌==◌, bit_and, bit_or, bit_xor, nat_lt, slice_index, slice_set}
 use Rattle.std.specs.List.{range_with_len, slice_split}
 use Rattle.text.specs.Number.{number_of}

@@ -1,11 +1,11 @@
 -- A sending and a receiving end, and how they came to stand as they do.
 --
---   Pair         the states of both
---   made_pair    both as they are made
+--   Pair              the states of both
+--   made_pair         both as they are made
 --   SenderStands s    calls on a sender, each as the contract of such a call says, lead from its making to s; and what the theorem of
 --                     the line says holds of them: each stream that is read off them is a sent stream
 --   ReceiverStands r  the same of a receiving end: the laws hold of all that it has heard by these calls, between any two resets
---   Stand e      both
+--   Stand e           both
 use Rattle.std.specs.Prelude.{List}
 use Rattle.receiver.specs.Feed.{made}
 use Rattle.receiver.specs.declared.receiver.Receiver.{Receiver}

@@ -1,9 +1,9 @@
--- What comes of a command. Events go into a ring, which is q before a command and q' after it.
+-- What comes of a command. A trial is t before it and t' after it, and the ring of events q and q'.
 --
---   answered r                what an end answered
---   Passed n t q counts t' q' n cells were sent, and went over the line as they were sent, one after the other: all counts together
---   Noised n t q counts t' q' the octet 0xA5, which nobody sent, came n times
---   CarriedOut c t q o t' q'  the command c was carried out, and o came of it
+--   answered r                 what an end answered
+--   Passed n t q counts t' q'  n cells were sent and went over the line as they were sent, one after the other: all counts together
+--   Noised n t q counts t' q'  the octet 0xA5, which nobody sent, came n times
+--   CarriedOut c t q o t' q'   the command c was carried out, and o came of it
 use Rattle.std.specs.Prelude.{◌≡◌, ℕ, ◌+◌, [], ◌∷◌, None, Ok, Err, Result}
 use Rattle.cell.specs.declared.refusal.Refusal.{Refusal}
 use Rattle.ring.specs.declared.ring.Ring.{Ring}

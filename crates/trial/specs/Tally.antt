@@ -1,13 +1,13 @@
 -- Counts of cells that were sent, and of cells that went up. Each counter stops at its top.
 --
---   top                   where a counter stops
---   raised n by           the counter n, so much up, if it does not stop at its top
---   none                  nothing is counted yet
---   counted_sent kind t   the tally t with one cell more that was sent: no idle cell is counted
---   counted_up as t       the tally t with one cell more that went up, as it was sent or not
---   as_sent sent c        the cell c has the octets of the cell that was sent, if one was
---   counted_all sent cs t the tally t with all of the cells cs, which went up beside the cell that was sent, if one was
---   added t u             both counts together
+--   top                    where a counter stops
+--   raised n by            the counter n, so much up, if it does not stop at its top
+--   none                   nothing is counted yet
+--   counted_sent kind t    the tally t with one cell more that was sent: no idle cell is counted
+--   counted_up as t        the tally t with one cell more that went up, as it was sent or not
+--   as_sent sent c         the cell c has the octets of the cell that was sent, if one was
+--   counted_all sent cs t  the tally t with all of the cells cs, which went up beside the cell that was sent, if one was
+--   added t u              both counts together
 use Rattle.std.specs.Prelude.{ℕ, ◌+◌, ◌-◌, ◌^◌, min, Bool, true, false, List, [], ◌∷◌, Some, None, Option}
 use Rattle.std.specs.Str.{bytes_eq}
 use Rattle.std.specs.declared.num.Saturating.{Saturating}

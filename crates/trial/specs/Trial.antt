@@ -1,17 +1,20 @@
--- Two ends, user cells with numbers, and what goes over the line between them.
+-- Two ends, user cells with numbers, and what goes over the line between them. A trial is t before a call and t' after it, and the ring
+-- of events q and q'.
 --
---   trial_made           both ends as they are made; the first user cell has the number 1
---   payload_of n         the payload of user cell number n: the number as four octets, the most significant first, and 44 octets 0x55
---   user_cell n          user cell number n: VPI 0, VCI 100
---   number_after kind n  the number of the user cell that goes out next, where a cell of this kind went out while number n waited
---   if_sent kind c       the user cell c if it went out
---   CellSent c t kind line t'  the next cell went out while the user cell c waited: its kind, and its octets on the line
---   Came os sent t q counts t' q'  the octets os came at the receiving end, which began with the ring of events q and left it as q': the cells
---                                  that went up are counted beside the cell that was sent, if one was
---   CellWent d t q counts t' q'    one cell was sent and went over the line with the damage d; what was sent and what went up is counted
---   Starts p t r t'      what a start at the phase p answers, and the trial after it
---   F3Set o t t'         the F3 payload is 48 times the octet o from now on
---   reset_trial t        the trial t with its receiving end reset
+--   trial_made                     both ends as they are made; the first user cell has the number 1
+--   payload_of n                   the payload of user cell number n: the number as four octets, the most significant first, and 44
+--                                  octets 0x55
+--   user_cell n                    user cell number n: VPI 0, VCI 100
+--   number_after kind n            the number of the user cell that goes out next, where a cell of this kind went out while number n waited
+--   if_sent kind c                 the user cell c, if it went out
+--   CellSent c t kind line t'      the next cell went out while the user cell c waited: its kind, and its octets on the line
+--   Came os sent t q counts t' q'  the octets os came at the receiving end: the cells that went up are counted beside the cell that was
+--                                  sent, if one was
+--   CellWent d t q counts t' q'    one cell was sent and went over the line with the damage d: what was sent and what went up is counted
+--   trial_with t e                 the trial t with the ends e
+--   Starts p t r t'                what a start at the phase p answers
+--   F3Set o t t'                   the F3 payload is 48 times the octet o from now on
+--   reset_trial t                  the trial t with its receiving end reset
 use Rattle.std.specs.Prelude.{◌≡◌, ℕ, ◌+◌, ◌%◌, ◌^◌, List, [], ◌∷◌, ◌++◌, replicate, Some, None, Option, Result}
 use Rattle.cell.specs.declared.header.Kind.{Kind}
 use Rattle.cell.specs.declared.header.Kind.TheVariants.{Idle, F3, User}

@@ -14,6 +14,7 @@ import receiver_check
 import receiver_vectors
 import self_check
 import send
+import trial
 
 CRATES = Path(__file__).resolve().parent.parent / "crates"
 
@@ -22,6 +23,7 @@ MAKERS = {
     "headers": headers.files,
     "send": send.files,
     "receive": receive.files,
+    "trial": trial.files,
     "coding_vectors": coding_vectors.files,
     "receiver_vectors": receiver_vectors.files,
 }
@@ -42,6 +44,7 @@ def main() -> int:
             found = path.read_bytes() if path.exists() else None
             word = "same" if found == wanted else "differs"
             if found != wanted and not checking:
+                path.parent.mkdir(exist_ok=True)
                 path.write_bytes(wanted)
                 word = "written"
             differing += word == "differs"

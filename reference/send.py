@@ -1,4 +1,4 @@
-"""The block that the program `send` is run on, its arguments, and the line octets that it must write."""
+"""The block and the F3 payload that the program `send` is run on, its arguments, and the line octets that it must write."""
 
 import random
 from typing import Dict, List
@@ -6,10 +6,11 @@ from typing import Dict, List
 from coding import PAYLOAD_OCTETS
 from sender import Sender
 
-SEED = 53
+SEED, F3_SEED = 53, 48
 BLOCK_OCTETS = 70_001
 PHASE, LEAD, VPI, VCI = 0x3ECFEDE8, 45, 17, 1042
 TRAIL = 8
+F3_FILE = "f3-payload"
 
 
 def user_cells(header: int, block: bytes) -> List[bytes]:
@@ -18,10 +19,11 @@ def user_cells(header: int, block: bytes) -> List[bytes]:
     return [header.to_bytes(4, "big") + part.ljust(PAYLOAD_OCTETS, b"\0") for part in parts]
 
 
-def line_octets(block: bytes, header: int, phase: int, lead: int) -> bytes:
+def line_octets(block: bytes, header: int, phase: int, lead: int, f3_payload: bytes) -> bytes:
     """The lead without users, cells until each one of the block is out, and the trail without users."""
     sender, line = Sender(), b""
     sender.start(phase)
+    sender.set_f3(f3_payload)
     for _ in range(lead):
         line += sender.send([])[0]
     waiting = user_cells(header, block)
@@ -32,18 +34,20 @@ def line_octets(block: bytes, header: int, phase: int, lead: int) -> bytes:
     return line
 
 
-def block() -> bytes:
-    source = random.Random(SEED)
-    return bytes(source.getrandbits(8) for _ in range(BLOCK_OCTETS))
+def octets(seed: int, count: int) -> bytes:
+    source = random.Random(seed)
+    return bytes(source.getrandbits(8) for _ in range(count))
 
 
 def arguments() -> List[str]:
-    return ["--lead", str(LEAD), "--phase", f"0x{PHASE:X}", "--vci", str(VCI), "--vpi", f"0x{VPI:02x}"]
+    return ["--lead", str(LEAD), "--phase", f"0x{PHASE:X}", "--f3", F3_FILE, "--vci", str(VCI), "--vpi", f"0x{VPI:02x}"]
 
 
 def files() -> Dict[str, bytes]:
+    block, f3_payload = octets(SEED, BLOCK_OCTETS), octets(F3_SEED, PAYLOAD_OCTETS)
     return {
-        "stdin": block(),
+        "stdin": block,
+        f"data/{F3_FILE}": f3_payload,
         "args": "".join(word + "\n" for word in arguments()).encode(),
-        "stdout": line_octets(block(), VPI << 20 | VCI << 4, PHASE, LEAD),
+        "stdout": line_octets(block, VPI << 20 | VCI << 4, PHASE, LEAD, f3_payload),
     }

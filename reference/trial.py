@@ -5,7 +5,7 @@ from typing import Dict, List, NamedTuple, Optional
 
 from bits import octets_of, bits_of_octets
 from coding import PAYLOAD_OCTETS
-from receiver import FEED_LIMIT, HUNT, PRESYNC, Acquisition, Event, Receiver, Steady, Verification
+from receiver import FEED_LIMIT, HUNT, PRESYNC, SYNC, Acquisition, Event, Receiver, Steady, Verification
 from refusal import Refused
 from sender import F3, USER, Sender
 from sinks import RING_LIMIT, Ring
@@ -56,6 +56,8 @@ def command_of(line: str) -> Optional[Command]:
         return None
     if name in ("pass", "noise", "start"):
         return Command(name, numbers) if len(numbers) == 1 else None
+    if name == "f3":
+        return Command(name, numbers) if len(numbers) == 1 and numbers[0] < 256 else None
     if name == "reset":
         return Command(name) if not numbers else None
     if name == "turn":
@@ -121,6 +123,10 @@ class Trial:
                 answer = "accepted"
             except Refused as refused:
                 answer = f"refused {refused.number}"
+        elif command.name == "f3":
+            words = f"f3 0x{command.numbers[0]:02X}"
+            self.sender.set_f3(bytes(command.numbers) * PAYLOAD_OCTETS)
+            answer = "accepted"
         elif command.name == "reset":
             self.receiver.reset()
             answer = "accepted"
@@ -137,21 +143,24 @@ class Trial:
         return [f"{words}: {answer}"] + [f"  {event_words(event)}" for event in events.take_all()]
 
     def summary(self) -> List[str]:
-        readings, counters = self.receiver.readings(), self.receiver.counters
-        boundary = readings.delineation
-        if boundary != HUNT:
-            boundary += f" with {readings.headers} {'agreeing' if boundary == PRESYNC else 'wrong'} headers in a row"
-        descrambler = self.receiver.descrambler
-        state = f"in {DESCRAMBLER_WORDS[type(descrambler)]} with confidence {descrambler.confidence}"
-        if not isinstance(descrambler, Acquisition):
-            state += f" and phase 0x{descrambler.phase:08X}"
-        return [
-            f"cells: {self.total.words()}",
-            f"line: bits {readings.bits}",
-            f"headers: mended {counters['mended']}, discarded {counters['discarded']}; F3 cells {counters['f3']}",
-            f"sink: cells taken {counters['taken']}, full {counters['full']}, not served {counters['unserved']}; events lost {counters['lost']}",
-            f"state: boundary {boundary}; descrambler {state}; mode {readings.mode}",
-        ]
+        return [f"cells: {self.total.words()}"] + readings_words(self.receiver)
+
+
+def readings_words(receiver: Receiver) -> List[str]:
+    """All that can be read of a receiving end but the last F3 payload."""
+    readings, counters, descrambler = receiver.readings(), receiver.counters, receiver.descrambler
+    headers = {HUNT: "", PRESYNC: f", confirming headers {readings.headers}", SYNC: f", wrong headers in a row {readings.headers}"}
+    phase = "" if isinstance(descrambler, Acquisition) else f", phase of the last cell 0x{descrambler.phase:08X}"
+    return [
+        f"bits: {readings.bits}",
+        f"user cells: taken {counters['taken']}, full {counters['full']}, not served {counters['unserved']}",
+        f"F3 cells: {counters['f3']}",
+        f"headers: mended {counters['mended']}, discarded {counters['discarded']}",
+        f"events: lost {counters['lost']}",
+        f"boundary: {readings.delineation}{headers[readings.delineation]}",
+        f"descrambler: {DESCRAMBLER_WORDS[type(descrambler)]}, confidence {descrambler.confidence}{phase}",
+        f"mode: {readings.mode}",
+    ]
 
 
 def event_words(event: Event) -> str:
@@ -223,6 +232,10 @@ start 4294967295
 pass 2
 start 2147483647
 pass 480
+# Other F3 payloads.
+f3 0x55
+pass 435
+f3 0
 # A reset of the receiving end: it hunts again, from the next bit on.
 reset
 pass 26
@@ -238,6 +251,8 @@ turn 3 3
 turn 3  4
 noise 0x
 start
+f3 256
+f3
 reset now
 Pass 1
   pass 0x0A\t

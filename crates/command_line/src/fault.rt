@@ -2,6 +2,7 @@
 ghost use Rattle.std.specs.Prelude.{◌≡◌, IfOk};
 ghost use Rattle.std.specs.Process.{exit_status};
 
+use crate::words::word;
 use std::fmt::Display;
 use std::io;
 use std::io::Eprint;
@@ -22,7 +23,7 @@ impl<W: Display + Drop> Fault<W> {
     {
         rt.eprintln(usage)?;
         let Fault { at, why } = self;
-        let word = words.get(at).map_or("", |word| word.as_str());
+        let word = word(words, at);
         eprintln!(rt; "Error: {why}: {word}")?;
         Ok(ExitCode::FAILURE)
     }

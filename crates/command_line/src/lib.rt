@@ -1,5 +1,6 @@
-// What the programs share: the refusal of a word of their command lines, and reading until a place is full.
+// What the programs share: the words of their command lines, the refusal of one, and reading until a place is full.
 #![tactic(auto)]
 
 pub mod fault;
 pub mod input;
+pub mod words;

@@ -44,6 +44,7 @@ module _ (laws : (all : List Moment) → Heard start all → LawsThroughout all)
   received {r = r} h =
       record {
         tracker = (history_stands h).tracker;
+        handed = each_stretch (Heard start) (λ all h. h) h;
         laws = each_stretch LawsThroughout laws h;
         mended = λ f n r' fed before later m is e. told f before m e;
         feed = λ f r' x. receiving.called h x;
@@ -69,7 +70,8 @@ module _ (laws : (all : List Moment) → Heard start all → LawsThroughout all)
       record {
         streams = streams-sent h;
         start = λ p answer s' x. sending.called h x;
-        send = λ x s' us y told. sending.called h (us, (y, told));
+        send = λ x s' us y. sending.called h (us, y);
+        send_next = λ waiting waiting' kind line s' us y. sending.called h (us, (refl, y));
         set_f3 = λ f answer s' x. sending.called h x;
       }
 

@@ -4,7 +4,7 @@ use Rattle.std.specs.List.{AllByRecursion}
 use Rattle.cell.specs.declared.header.Kind.TheVariants.{User}
 use Rattle.ports.specs.Cell.{of_connection}
 use Rattle.sender.specs.Sender.{SenderState, fresh, advanced}
-use Rattle.line.specs.Stream.{Send, SentStream, line_of, lost}
+use Rattle.sender.specs.Stream.{Send, SentStream, line_of, lost}
 use Rattle.tracker.specs.declared.tracker.Tracker.{Tracker}
 use Rattle.tracker.specs.Tracker.{start}
 use Rattle.receiver.specs.Handing.{Moment, bits}

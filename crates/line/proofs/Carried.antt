@@ -6,8 +6,8 @@ use Rattle.std.proofs.Common.{◌≡◌, ℕ, ◌^◌, ◌<◌, List, [], ◌∷
 use Rattle.cell.specs.Header.{kind_of}
 use Rattle.scrambler.specs.Coding.{masked}
 use Rattle.scrambler.specs.Generator.{next_phase}
-use Rattle.sender.specs.Told.{Octets}
-use Rattle.line.specs.Stream.{Send}
+use Rattle.sender.specs.Sender.{Octets}
+use Rattle.sender.specs.Stream.{Send}
 use Rattle.receiver.specs.Run.{bits_of}
 use Rattle.line.specs.Laws.{header_bits, payload_bits}
 use Rattle.line.proofs.CodeLaws.{head_octets}

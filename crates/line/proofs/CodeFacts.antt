@@ -13,12 +13,14 @@ use Rattle.cell.proofs.Division.{remainder_lt}
 use Rattle.scrambler.specs.Generator.{step, back, iterate, octet_ahead, next_phase, before}
 use Rattle.scrambler.specs.Coding.{header_mask, sample8, sample7, samples, coded_header, masked}
 use Rattle.scrambler.specs.Finder.{samples_of, sample_word, OnePhase, times_rows, phase_rows, found}
-use Rattle.scrambler.proofs.Codes.{syndrome_is_samples, carries_samples, header_of_octets}
+use Rattle.scrambler.proofs.Codes.{header_mask_lt, syndrome_is_samples, carries_samples, header_of_octets}
 use Rattle.scrambler.proofs.Masks.{ago_lt, sample7_lt}
 use Rattle.scrambler.proofs.Payloads.{length-masked, masked_twice}
 use Rattle.scrambler.proofs.Rows.{one_phase_lem}
 use Rattle.scrambler.proofs.Steps.{back_step, step_lt, steps_lt, iterate_add}
-use Rattle.sender.specs.Told.{Octets}
+use Rattle.sender.specs.Sender.{Octets}
+use Rattle.sender.proofs.Octets.{masked-octets, hec_lt}
+use Rattle.sender.proofs.Phases.{backs_steps}
 use Rattle.tracker.specs.Window.{syndrome_in, agrees, samples_in, predicted, freed, header_in}
 use Rattle.receiver.specs.Run.{octet_bits, bits_of}
 use Rattle.line.proofs.Bits.{value, value_from, octets_of, value_from_lem, value_append, value_octet, octets_of_lem, length-bits_of}
@@ -42,21 +44,11 @@ value_octets [] n h = refl
 value_octets (o ∷ os) n h =
     value_append (octet_bits o) (bits_of os) n ∙ ap (λ (z : ℕ). value_from z (bits_of os)) (octet_more o n h.0) ∙ value_octets os (n * 2 ^ 8 + o) h.1
 
-header_mask_lt : (p : ℕ) → header_mask p < 2 ^ 32
-unfolding header_mask
-header_mask_lt p = omega (arith, ago_lt 32 p, mod-lt p (pow_pos 31))
-
 scrambled_lt : (p h : ℕ) → h < 2 ^ 32 → (coded_header h p).header.0 < 2 ^ 32
 scrambled_lt p h b = xor_lt 32 h (header_mask p) b (header_mask_lt p)
 
-hec_lt : (p h : ℕ) → h < 2 ^ 32 → (coded_header h p).hec < 2 ^ 8
-hec_lt p h b =
-    let x : ℕ = bit_xor h (header_mask p) in
-    let small : x < 2 ^ 32 = scrambled_lt p h b in
-    let eight : sample8 p < 2 = ago_lt 211 p in
-    let seven : sample7 p < 2 = sample7_lt p in
-    let high : x * 2 ^ 8 < 2 ^ 40 = omega arith in
-    xor_lt 8 (check_octet x) (samples p) (xor_lt 8 (remainder 32 (x * 2 ^ 8)) 0x55 (remainder_lt (x * 2 ^ 8) high) (lit< tt)) (omega arith)
+coded_hec_lt : (p h : ℕ) → h < 2 ^ 32 → (coded_header h p).hec < 2 ^ 8
+coded_hec_lt p h b = hec_lt (bit_xor h (header_mask p)) p (scrambled_lt p h b)
 
 -- the 40 bits of a coded header are its number
 pub head_word_is : (p h : ℕ) → h < 2 ^ 32 → head_word p h ≡ bits40 (coded_header h p)
@@ -64,7 +56,7 @@ unfolding value head_octets number_from
 head_word_is p h b =
     let x : ℕ = (coded_header h p).header.0 in
     let low : (n : ℕ) → n % 2 ^ 8 < 2 ^ 8 = λ n. mod-lt n (pow_pos 8) in
-    value_octets (head_octets p h) 0 (low _, (low _, (low _, (low _, (hec_lt p h b, tt)))))
+    value_octets (head_octets p h) 0 (low _, (low _, (low _, (low _, (coded_hec_lt p h b, tt)))))
     ∙ joined (x / 2 ^ 24 % 2 ^ 8) (x / 2 ^ 16 % 2 ^ 8) (x / 2 ^ 8 % 2 ^ 8) (x % 2 ^ 8) (coded_header h p).hec x (header_of_octets x [] (scrambled_lt p h b))
   where
     joined : (a b c d o x : ℕ) → a * 2 ^ 24 + b * 2 ^ 16 + c * 2 ^ 8 + d ≡ x
@@ -81,7 +73,7 @@ of_bits_lem l h o =
 
 -- and as a header on the line they are that header
 pub head_word_of : (p h : ℕ) → h < 2 ^ 32 → of_bits (head_word p h) ≡ coded_header h p
-head_word_of p h b = ap of_bits (head_word_is p h b) ∙ of_bits_lem (coded_header h p) (scrambled_lt p h b) (hec_lt p h b)
+head_word_of p h b = ap of_bits (head_word_is p h b) ∙ of_bits_lem (coded_header h p) (scrambled_lt p h b) (coded_hec_lt p h b)
 
 -- ---- headers
 
@@ -119,11 +111,6 @@ no_fault_lem = refl
 
 -- ---- payloads
 
-masked-octets : (xs : List ℕ) (k p : ℕ) → AllByRecursion (λ x. x < 2 ^ 8) xs → AllByRecursion (λ x. x < 2 ^ 8) (masked k p xs)
-unfolding masked octet_ahead
-masked-octets [] k p h = tt
-masked-octets (x ∷ xs) k p h = (xor_lt 8 x (octet_ahead k p) h.0 (mod-lt (iterate (k + 8) step p) (pow_pos 8)), masked-octets xs (k + 8) p h.1)
-
 body_law : (p : ℕ) (xs : List ℕ) → Octets 48 xs → masked 8 p (octets_of (bits_of (masked 8 p xs))) ≡ xs
 body_law p xs o = ap (masked 8 p) (octets_of_lem (masked 8 p xs) (masked-octets xs 8 p o.1)) ∙ masked_twice xs 8 p
 
@@ -135,13 +122,6 @@ payload_long_lem p xs o = length-bits_of (masked 8 p xs) ∙ ap (λ (z : ℕ). 8
 next_lt : (p : ℕ) → next_phase p < 2 ^ 31
 unfolding iterate
 next_lt p = steps_lt 423 (step p) (step_lt p)
-
-backs_steps : (n p : ℕ) → p < 2 ^ 31 → iterate n back (iterate n step p) ≡ p
-unfolding iterate
-backs_steps zero p h = refl
-backs_steps (suc n) p h =
-    let y : ℕ = iterate n step (step p) in
-    ap (λ (m : ℕ). iterate m back y) (sym (add-one n)) ∙ sym (iterate_add n 1 back y) ∙ ap back (backs_steps n (step p) (step_lt p)) ∙ back_step p h
 
 -- the samples of one cell more
 samples_more : (n p : ℕ) → samples_of (suc n) p ≡ samples_of n (before p) * 2 ^ 2 + predicted p

@@ -13,7 +13,7 @@ use Rattle.cell.specs.declared.verdict.Verdict.TheVariants.{Clean, OneWrongBit, 
 use Rattle.scrambler.specs.Generator.{next_phase}
 use Rattle.scrambler.specs.Coding.{coded_header, masked}
 use Rattle.scrambler.specs.Finder.{found, OnePhase}
-use Rattle.sender.specs.Told.{Octets}
+use Rattle.sender.specs.Sender.{Octets}
 use Rattle.tracker.specs.Window.{agrees, samples_in, predicted, freed, header_in, mended_in}
 use Rattle.tracker.specs.Rules.{verdict_at}
 use Rattle.receiver.specs.Run.{bits_of}

@@ -6,9 +6,9 @@
 --   burst six later  the lines as they come in: those of the sends six damaged, those of later as sent
 use Rattle.std.proofs.Common.{◌≡◌, ℕ, zero, suc, ◌+◌, ◌*◌, ◌%◌, ◌^◌, ◌<◌, ◌≤◌, ◌⊎◌, List, [], ◌∷◌, ◌++◌, map, length, get_or, sym, refl, ap, ◌∙◌, inl, inr, append_assoc, mod-lt, arith, lit<, length-append}
 use Rattle.std.specs.List.{AllByRecursion}
-use Rattle.sender.specs.Told.{Octets}
-use Rattle.line.specs.Stream.{Send, SentStream, line_of}
-use Rattle.line.proofs.StreamLaws.{stream_laws}
+use Rattle.sender.specs.Sender.{Octets}
+use Rattle.sender.specs.Stream.{Send, SentStream, line_of}
+use Rattle.sender.proofs.Streams.{stream_laws}
 use Rattle.receiver.specs.Run.{bits_of}
 use Rattle.line.specs.Heard.{join}
 use Rattle.line.specs.Laws.{Undamaged}

@@ -6,7 +6,7 @@ use Rattle.std.proofs.Common.{◌≡◌, ℕ, zero, suc, ◌+◌, ◌*◌, ◌%�
 use Rattle.ports.specs.Cell.{Cell, of_connection}
 use Rattle.scrambler.specs.Finder.{found}
 use Rattle.scrambler.specs.Generator.{next_phase}
-use Rattle.line.specs.Stream.{Send, line_of, sent_users}
+use Rattle.sender.specs.Stream.{Send, line_of, sent_users}
 use Rattle.tracker.specs.declared.state.Mode.{Mode}
 use Rattle.tracker.specs.declared.state.Mode.TheVariants.{Correction}
 use Rattle.tracker.specs.declared.state.Delineation.TheVariants.{Presync}

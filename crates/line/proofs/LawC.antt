@@ -5,7 +5,7 @@ use lib.Seq.{drop-append-le}
 use Rattle.std.specs.List.{AllByRecursion}
 use Rattle.cell.specs.declared.header.Kind.TheVariants.{User}
 use Rattle.ports.specs.Cell.{Cell, of_connection}
-use Rattle.line.specs.Stream.{Send, lost}
+use Rattle.sender.specs.Stream.{Send, lost}
 use Rattle.tracker.specs.declared.state.Lock.{Lock}
 use Rattle.tracker.specs.declared.state.Place.TheVariants.{Payload}
 use Rattle.tracker.specs.declared.tracker.Tracker.{Tracker}

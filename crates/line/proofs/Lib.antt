@@ -13,7 +13,6 @@ pub mod Frames
 pub mod LawB
 pub mod RightHeader
 pub mod Histories
-pub mod StreamLaws
 pub mod Streams
 pub mod Survives
 pub mod LawC

@@ -8,7 +8,7 @@ use Rattle.std.proofs.Common.{◌≡◌, ℕ, zero, suc, ◌+◌, ◌%◌, ◌^�
 use Rattle.cell.specs.declared.header.Header as headers
 use Rattle.scrambler.specs.Finder.{found}
 use Rattle.scrambler.specs.Generator.{next_phase}
-use Rattle.line.specs.Stream.{Send, line_of}
+use Rattle.sender.specs.Stream.{Send, line_of}
 use Rattle.tracker.specs.declared.state.Mode.{Mode}
 use Rattle.tracker.specs.declared.state.Mode.TheVariants.{Correction}
 use Rattle.tracker.specs.declared.state.Delineation.TheVariants.{Presync}

@@ -7,7 +7,7 @@ use Rattle.cell.specs.declared.verdict.Verdict.{Verdict}
 use Rattle.cell.specs.declared.verdict.Verdict.TheVariants.{OneWrongBit}
 use Rattle.ports.specs.Cell.{Cell, of_connection}
 use Rattle.scrambler.specs.Generator.{next_phase}
-use Rattle.line.specs.Stream.{Send, lost}
+use Rattle.sender.specs.Stream.{Send, lost}
 use Rattle.tracker.specs.declared.events.HeaderEvents.{HeaderEvents}
 use Rattle.tracker.specs.declared.state.Mode.{Mode}
 use Rattle.tracker.specs.declared.state.Mode.TheVariants.{Correction, Detection}

@@ -12,9 +12,8 @@ use Rattle.cell.specs.declared.header.Kind.TheVariants.{F3, User}
 use Rattle.ports.specs.Cell as cells
 use Rattle.ports.specs.Cell.{Cell, octets}
 use Rattle.scrambler.specs.Coding.{coded}
-use Rattle.sender.specs.Sender.{SenderState, Sends, fresh, cell_sent, kind_sent, left_waiting, advanced, f3_cell}
-use Rattle.sender.specs.Told.{Octets, KindWhy, SendTold}
-use Rattle.line.specs.Stream.{Send}
+use Rattle.sender.specs.Sender.{SenderState, Sends, fresh, cell_sent, kind_sent, left_waiting, advanced, f3_cell, Octets, KindWhy}
+use Rattle.sender.specs.Stream.{Send}
 use Rattle.line.specs.Sending as sending
 use Rattle.line.specs.Sending.{Sending, Stream, History, sent}
 
@@ -67,23 +66,22 @@ why : (t : Bool) (s : SenderState) → eqb s.number 0 ≡ t → KindWhy s one (c
 why true s e = (refl, eqb-true s.number 0 e)
 why false s e = (refl, eqb-false s.number 0 e, λ z. absurd (let y : ◌≡◌ {A = ℕ} 1 0 = ap length z in omega arith))
 
-sends_one : (s : SenderState) → Sends s one (kind_sent s one) (send_on s).line (advanced s) (left_waiting s one)
-sends_one s =
+sends_one : (s : SenderState) → Octets 48 s.f3 → Sends s one (kind_sent s one) (send_on s).line (advanced s) (left_waiting s one)
+sends_one s h =
     record {
       sort = refl;
+      why = why (eqb s.number 0) s refl;
+      payload = payload_octets (eqb s.number 0) s h;
       written = refl;
       after = refl;
       left = refl;
     }
 
-told_one : (s : SenderState) → Octets 48 s.f3 → SendTold s one (kind_sent s one)
-told_one s h = record { why = why (eqb s.number 0) s refl; payload = payload_octets (eqb s.number 0) s h }
-
 abbrev call : SenderState → sending.Call
 call s = sending.send (record { waiting = one; place = replicate 53 0; answer = Ok (kind_sent s one); waiting' = left_waiting s one; place' = (send_on s).line })
 
 called_one : {cs : List sending.Call} {s : SenderState} → History cs s → Octets 48 s.f3 → History (call s ∷ cs) (advanced s)
-called_one {s = s} h o = sending.called h ((sample_user, tt), ((refl, sends_one s), told_one s o))
+called_one {s = s} h o = sending.called h ((sample_user, tt), (refl, sends_one s o))
 
 pub record Grown (n : ℕ) (s : SenderState) (x : Stream) : Type 0 where
   pub calls : List sending.Call

@@ -10,9 +10,8 @@ use Rattle.ports.proofs.Octets.{header_read}
 use Rattle.scrambler.specs.Coding.{coded, coded_header, masked, header_octets}
 use Rattle.scrambler.specs.Generator.{step, iterate, next_phase}
 use Rattle.scrambler.proofs.Steps.{iterate_add}
-use Rattle.line.specs.Stream.{Send, SentStream, CellLaws, line_of, lost}
-use Rattle.sender.specs.Stream.{lost_to}
-use Rattle.line.proofs.StreamLaws.{stream_laws}
+use Rattle.sender.specs.Stream.{Send, SentStream, CellLaws, line_of, lost_to, lost}
+use Rattle.sender.proofs.Streams.{stream_laws}
 use Rattle.tracker.specs.Window.{agrees, samples_in, predicted, freed, header_in}
 use Rattle.receiver.specs.Run.{bits_of, user_by, user_cell}
 use Rattle.line.specs.Laws.{header_bits, payload_bits}

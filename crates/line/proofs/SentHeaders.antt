@@ -12,7 +12,7 @@ use Rattle.cell.specs.declared.verdict.Verdict.{Verdict}
 use Rattle.cell.specs.declared.verdict.Verdict.TheVariants.{Clean}
 use Rattle.scrambler.specs.Finder.{found}
 use Rattle.scrambler.specs.Generator.{next_phase}
-use Rattle.line.specs.Stream.{Send}
+use Rattle.sender.specs.Stream.{Send}
 use Rattle.tracker.specs.declared.state.Mode.{Mode}
 use Rattle.tracker.specs.declared.state.Mode.TheVariants.{Correction, Detection}
 use Rattle.tracker.specs.declared.state.Delineation.{Delineation}

@@ -4,8 +4,8 @@ use Rattle.std.specs.List.{AllByRecursion}
 use Rattle.ports.specs.Cell.{Cell, of_connection}
 use Rattle.ports.specs.Sink.{SinkState}
 use Rattle.sender.specs.Sender.{SenderState, fresh, advanced}
-use Rattle.line.specs.Stream.{Send, SentStream, line_of, sent_users}
-use Rattle.line.proofs.StreamLaws.{stream_laws}
+use Rattle.sender.specs.Stream.{Send, SentStream, line_of, sent_users}
+use Rattle.sender.proofs.Streams.{stream_laws}
 use Rattle.tracker.specs.declared.tracker.Tracker.{Tracker}
 use Rattle.tracker.specs.Tracker.{start}
 use Rattle.receiver.specs.Handing.{Moment, bits}
@@ -30,7 +30,7 @@ use Rattle.line.proofs.Bits.{length-bits_of}
 use Rattle.line.proofs.Streams.{streams-sent}
 
 -- the moments of a feed that ends the hunt of a new end on the header of x
-record Parted (x : Send) (left : List Bool) : Type 0 where
+record CutAtHunt (x : Send) (left : List Bool) : Type 0 where
   past : List Moment
   m : Moment
   rest : List Moment
@@ -40,7 +40,7 @@ record Parted (x : Send) (left : List Bool) : Type 0 where
   on_header : Ends (bits past ++ m.bit ∷ []) (header_bits x)
   others : bits rest ≡ left
 
-parted : (x : Send) (left : List Bool) → Caught x → Parted x left
+parted : (x : Send) (left : List Bool) → Caught x → CutAtHunt x left
 parted x left c =
     let s : Tracker = after start c.front in
     let k : SinkState = sink_over start wide c.front in
@@ -67,13 +67,13 @@ stream_comes : {cs : List sending.Call} {s : SenderState} (g : History cs s) (x 
 stream_comes {cs = cs} {s = s} g x back k c cells sends some few users =
     let p : ℕ = (sent g).newest.begins in
     let stream : SentStream p (x ∷ back) = subst (SentStream p) sends (streams-sent g).0 in
-    let octets : length (line_of (x ∷ back)) ≡ 53 * suc (length back) = (stream_laws.line p (x ∷ back) stream).0 in
+    let octets : length (line_of (x ∷ back)) ≡ 53 * suc (length back) = (stream_laws.octets p (x ∷ back) stream).0 in
     let others : length (line_of (x ∷ back)) ≡ length x.line + length (line_of back) = length-append x.line (line_of back) in
     let own : length x.line ≡ 53 = (stream_laws.cells p (x ∷ back) stream [] x back refl).line.0 in
     let fed : FedNew (line_of (x ∷ back)) = feed_new (line_of (x ∷ back)) (omega arith) (omega arith) in
     let carried : CarriedOn x.phase (x ∷ back) = stream_carried p [] x back stream in
     let left : List Bool = payload_bits x ++ bits_of (line_of back) in
-    let v : Parted x left = parted x left (caught code_laws x x.phase carried.0) in
+    let v : CutAtHunt x left = parted x left (caught code_laws x x.phase carried.0) in
     let is : moments_over start wide (bits_of (line_of (x ∷ back))) ≡ v.past ++ v.m ∷ v.rest = ap (moments_over start wide) (stream_bits x back) ∙ v.is in
     let hears : (heard fed.history).newest ≡ v.past ++ v.m ∷ v.rest = fed.hears ∙ is in
     let roomy : AllByRecursion RoomyAt v.rest = roomy_after v.past v.rest v.m (subst (AllByRecursion RoomyAt) is fed.ready) in

@@ -4,13 +4,12 @@ use Rattle.std.specs.List.{AllByRecursion}
 use Rattle.cell.specs.declared.header.Kind.{Kind}
 use Rattle.cell.specs.declared.refusal.Refusal.{Refusal}
 use Rattle.ports.specs.Cell.{User}
-use Rattle.sender.specs.Sender.{SenderState, fresh, StartAnswer, started}
-use Rattle.sender.specs.Told.{F3Answer}
-use Rattle.line.specs.Stream as stream
-use Rattle.line.specs.Stream.{Send, Run, none, more, f3_set, Begins, SentStream}
-use Rattle.line.proofs.StreamLaws.{stream_laws}
+use Rattle.sender.specs.Sender.{SenderState, fresh, StartAnswer, SendAnswer, started, F3Answer}
+use Rattle.sender.specs.Stream as stream
+use Rattle.sender.specs.Stream.{Send, Run, none, more, f3_set, Begins, SentStream}
+use Rattle.sender.proofs.Streams.{stream_laws}
 use Rattle.line.specs.Sending as call
-use Rattle.line.specs.Sending.{Sending, Call, Sends, Calls, History, made, called, Stream, Streams, beginning, started_with, sent_by, sent_with, sent, streams}
+use Rattle.line.specs.Sending.{Sending, Call, Calls, History, made, called, Stream, Streams, beginning, started_with, sent_by, sent_with, sent, streams}
 
 abbrev IsSent : Stream → Type 0
 IsSent x = SentStream x.begins x.sends
@@ -38,9 +37,9 @@ start-stands s s' p (Ok u) t h st =
     (record { newest = record { first = started s p; begins = stream.start s p h.0 h.1; run = none }; earlier = (is_sent t.newest s st.newest, st.earlier) })
 start-stands s s' p (Err e) t h st = subst (λ (z : SenderState). Stands z t) (sym h.1) st
 
-send_runs : (s s' : SenderState) (x : Sending) (answer : Result Kind Refusal) → AllByRecursion User x.waiting → Sends s x answer s' → Run s (sent_by s x answer) s'
-send_runs s s' x (Ok kind) us h = more (stream_laws.accepted s s' x.waiting x.waiting' kind x.place' us h.0.1 h.1) none
-send_runs s s' x (Err e) us h = subst (λ (z : SenderState). Run s [] z) (sym h.0.1) none
+send_runs : (s s' : SenderState) (x : Sending) (answer : Result Kind Refusal) → AllByRecursion User x.waiting → SendAnswer s x.waiting x.place answer s' x.waiting' x.place' → Run s (sent_by s x answer) s'
+send_runs s s' x (Ok kind) us h = more (stream_laws.accepted s s' x.waiting x.waiting' kind x.place' us h.1) none
+send_runs s s' x (Err e) us h = subst (λ (z : SenderState). Run s [] z) (sym h.1) none
 
 f3_runs : (s s' : SenderState) (f : List ℕ) (answer : Result (Unit {0}) Refusal) → F3Answer s f answer s' → Run s [] s'
 f3_runs s s' f (Ok u) h = subst (λ (z : SenderState). Run s [] z) (sym h.1) (f3_set h.0 none)

@@ -16,7 +16,7 @@ use Rattle.cell.specs.declared.verdict.Verdict.{Verdict}
 use Rattle.cell.specs.declared.verdict.Verdict.TheVariants.{Clean}
 use Rattle.ports.specs.Cell.{Cell}
 use Rattle.scrambler.specs.Generator.{next_phase}
-use Rattle.line.specs.Stream.{Send}
+use Rattle.sender.specs.Stream.{Send}
 use Rattle.tracker.specs.declared.state.Mode.{Mode}
 use Rattle.tracker.specs.declared.state.Mode.TheVariants.{Correction}
 use Rattle.tracker.specs.declared.state.Delineation.{Delineation}

@@ -13,7 +13,7 @@ use Rattle.std.specs.Prelude.{◌≡◌, ℕ, ◌+◌, ◌<◌, ◌≤◌, Bool,
 use Rattle.cell.specs.declared.header.Kind.TheVariants.{User}
 use Rattle.ports.specs.Cell.{Cell}
 use Rattle.sender.specs.Sender.{SenderState}
-use Rattle.line.specs.Stream.{Send}
+use Rattle.sender.specs.Stream.{Send}
 use Rattle.receiver.specs.declared.receiver.Receiver.{Receiver}
 use Rattle.receiver.specs.Handing.{Moment}
 use Rattle.line.specs.Heard.{Gains, ReadyAt}

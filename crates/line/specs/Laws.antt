@@ -41,7 +41,7 @@ use Rattle.std.specs.List.{AllByRecursion}
 use Rattle.cell.specs.declared.header.Header as header
 use Rattle.cell.specs.declared.header.Kind.TheVariants.{User}
 use Rattle.ports.specs.Cell.{Cell, of_connection}
-use Rattle.line.specs.Stream.{Send, SentStream, line_of, lost, sent_users}
+use Rattle.sender.specs.Stream.{Send, SentStream, line_of, lost, sent_users}
 use Rattle.tracker.specs.declared.events.HeaderCause.TheVariants.{Mended}
 use Rattle.tracker.specs.declared.events.HeaderEvents.{HeaderEvents}
 use Rattle.tracker.specs.declared.state.Mode.{Mode}

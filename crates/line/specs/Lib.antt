@@ -1,4 +1,3 @@
-pub mod Stream
 pub mod Heard
 pub mod Headers
 pub mod Laws

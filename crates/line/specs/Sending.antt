@@ -2,6 +2,7 @@
 --
 --   Sending       one call of send, with all that it was lent and answered: the cells that wait in the source lent, before and after
 --                 it; the place for the 53 octets, before and after it; the answer. Another source may be lent to each send
+--   unplaced      the same of an accepted send that lends no place (send_next): as into any place of 53 octets
 --   Call          one call: a start at a phase, a send, or the setting of the F3 payload, each with what it answered
 --   Calls s c s'  the call c on the sender s leaves it as s': what the contract of each call says. Refused calls are calls too. A
 --                 source that keeps its meaning holds user cells only
@@ -10,14 +11,13 @@
 --   Streams       the stream that goes on (newest), and those that a start has ended (earlier, the newest in front)
 --   sent h        what it has sent by the history h: its accepted sends
 --   streams h     all of that, stream by stream, the newest in front
-use Rattle.std.specs.Prelude.{ℕ, List, [], ◌∷◌, ◌++◌, Ok, Err, Result}
+use Rattle.std.specs.Prelude.{ℕ, List, [], ◌∷◌, ◌++◌, Ok, Err, Result, replicate}
 use Rattle.std.specs.List.{AllByRecursion}
 use Rattle.cell.specs.declared.header.Kind.{Kind}
 use Rattle.cell.specs.declared.refusal.Refusal.{Refusal}
 use Rattle.ports.specs.Cell.{Cell, User}
-use Rattle.sender.specs.Sender.{SenderState, fresh, cell_sent, StartAnswer, SendAnswer}
-use Rattle.sender.specs.Told.{SendTells, F3Answer}
-use Rattle.line.specs.Stream.{Send}
+use Rattle.sender.specs.Sender.{SenderState, fresh, cell_sent, StartAnswer, SendAnswer, F3Answer}
+use Rattle.sender.specs.Stream.{Send}
 
 pub record Sending : Type 0 where
   pub waiting : List Cell
@@ -26,17 +26,17 @@ pub record Sending : Type 0 where
   pub waiting' : List Cell
   pub place' : List ℕ
 
+abbrev pub unplaced : List Cell → Kind → List ℕ → List Cell → Sending
+unplaced waiting kind line waiting' = record { waiting = waiting; place = replicate 53 0; answer = Ok kind; waiting' = waiting'; place' = line }
+
 pub data Call : Type 0 where
   start : ℕ → Result (Unit {0}) Refusal → Call
   send : Sending → Call
   set_f3 : List ℕ → Result (Unit {0}) Refusal → Call
 
-abbrev pub Sends : SenderState → Sending → Result Kind Refusal → SenderState → Type 0
-Sends s x answer s' = SendAnswer s x.waiting x.place answer s' x.waiting' x.place' × SendTells s x.waiting answer
-
 abbrev pub Calls : SenderState → Call → SenderState → Type 0
 Calls s (start p answer) s' = StartAnswer s p answer s'
-Calls s (send x) s' = AllByRecursion User x.waiting × Sends s x x.answer s'
+Calls s (send x) s' = AllByRecursion User x.waiting × SendAnswer s x.waiting x.place x.answer s' x.waiting' x.place'
 Calls s (set_f3 f answer) s' = F3Answer s f answer s'
 
 pub data History : List Call → SenderState → Type 0 where

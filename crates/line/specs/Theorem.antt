@@ -6,18 +6,20 @@
 --                    counter of mended headers is one on, and the event is in the ring, behind all others; where no place is free there,
 --                    it is lost, and counted as lost
 --   Received h       what holds of a receiving end after the history h of calls on it. Its tracker is where the bits that it has heard since
---                    its making or the last reset lead to from the start; the laws hold of every stretch between two resets, at each
---                    moment of it; in the next feed each header that is mended is told; and the next call, by what its contract says, makes a history again
+--                    its making or the last reset lead to from the start. Of every stretch between two resets: each cell that the laws
+--                    call offered is put into the sink that is lent with its last bit, and no other cell is; and the laws hold, at each
+--                    moment of it. In the next feed each header that is mended is told; and the next call, by what its contract says,
+--                    makes a history again
 --   Sent h           what holds of a sender after the history h of calls on it: each stream that is read off it is a sent stream, begun at
 --                    the phase of its start, so that the laws speak of what any sender's calls write; and the next call makes a history
 --                    again
 use Rattle.std.specs.Prelude.{◌≡◌, ℕ, ◌<◌, ◌≤◌, List, [], ◌∷◌, ◌++◌, length, Some, Result}
 use Rattle.std.specs.List.{AllByRecursion}
 use Rattle.cell.specs.declared.refusal.Refusal.{Refusal}
-use Rattle.ports.specs.Cell.{User}
-use Rattle.sender.specs.Sender.{SenderState, StartAnswer, SendAnswer}
-use Rattle.sender.specs.Told.{SendTells, F3Answer}
-use Rattle.line.specs.Stream.{SentStream}
+use Rattle.cell.specs.declared.header.Kind.{Kind}
+use Rattle.ports.specs.Cell.{Cell, User}
+use Rattle.sender.specs.Sender.{SenderState, StartAnswer, Sends, SendAnswer, F3Answer}
+use Rattle.sender.specs.Stream.{SentStream}
 use Rattle.tracker.specs.declared.tracker.Moment.TheVariants as moment
 use Rattle.tracker.specs.Reading.{state_of}
 use Rattle.tracker.specs.Tracker.{start, bit_brings}
@@ -27,11 +29,12 @@ use Rattle.receiver.specs.Book.{Log, bits_on, mended_one, lost_one, log_run}
 use Rattle.receiver.specs.Feed.{Feeds, FeedAnswer, was_reset, log}
 use Rattle.receiver.specs.Handing.{Moment, bits}
 use Rattle.receiver.specs.Run.{after}
+use Rattle.line.specs.Heard.{Heard}
 use Rattle.line.specs.Laws.{LawsThroughout, mended_only}
 use Rattle.line.specs.Receiving as receiving
 use Rattle.line.specs.Receiving.{heard, stretches}
 use Rattle.line.specs.Sending as sending
-use Rattle.line.specs.Sending.{streams}
+use Rattle.line.specs.Sending.{streams, unplaced}
 
 abbrev pub mended_record : ℕ → EventRecord
 mended_record n = record { bit = n; layer = 1; cause = 1 }
@@ -50,6 +53,7 @@ pub record MendedTold (g g' : Log) : Type 0 where
 
 pub record Received {cs : List receiving.Call} {r : Receiver} (h : receiving.History cs r) : Type 0 where
   pub tracker : r.tracker ≡ after start (bits (heard h).newest)
+  pub handed : AllByRecursion (Heard start) (stretches h)
   pub laws : AllByRecursion LawsThroughout (stretches h)
   -- the moment m of the next feed, with those of the feed before it
   pub mended : (f : receiving.Feed) (n : ℕ) (r' : Receiver) (fed : Feeds f.octets r f.sink f.events n r' f.sink' f.events')
@@ -70,7 +74,9 @@ pub record Sent {cs : List sending.Call} {s : SenderState} (h : sending.History 
   -- the next call
   pub start : (p : ℕ) (answer : Result (Unit {0}) Refusal) (s' : SenderState) → StartAnswer s p answer s' → sending.History (sending.start p answer ∷ cs) s'
   pub send : (x : sending.Sending) (s' : SenderState) → AllByRecursion User x.waiting → SendAnswer s x.waiting x.place x.answer s' x.waiting' x.place'
-      → SendTells s x.waiting x.answer → sending.History (sending.send x ∷ cs) s'
+      → sending.History (sending.send x ∷ cs) s'
+  pub send_next : (waiting waiting' : List Cell) (kind : Kind) (line : List ℕ) (s' : SenderState) → AllByRecursion User waiting → Sends s waiting kind line s' waiting'
+      → sending.History (sending.send (unplaced waiting kind line waiting') ∷ cs) s'
   pub set_f3 : (f : List ℕ) (answer : Result (Unit {0}) Refusal) (s' : SenderState) → F3Answer s f answer s' → sending.History (sending.set_f3 f answer ∷ cs) s'
 
 pub record LineTheorem : Type 0 where

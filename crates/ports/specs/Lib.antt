@@ -3,6 +3,7 @@ pub mod Source
 pub mod Sink
 pub mod UserCell
 pub mod CellRing
+pub mod Pair
 pub mod Split
 pub mod Closed
 pub mod Drain

@@ -1,6 +1,8 @@
 // Two sources in a row.
 ghost use Rattle.std.specs.Prelude.{◌++◌};
 ghost use Rattle.ports.specs.Cell.{User};
+ghost use Rattle.ports.specs.Pair.{PairTake};
+ghost use Rattle.ports.specs.Source.{Takes};
 ghost use Rattle.std.proofs.ByRecursion.{All-append};
 
 use crate::source::{CountedSource, Source};
@@ -26,7 +28,10 @@ impl<P: Source, Q: Source> Source for Pair<P, Q> {
         }
     }
 
-    fn take(&mut self, place: &mut [u8]) -> Result<(), Refusal> {
+    fn take(&mut self, place: &mut [u8]) -> Result<(), Refusal>
+        ensures taken { Takes (P.Source.waiting self.old.first ++ Q.Source.waiting self.old.second) place.old result place.new (P.Source.waiting self.new.first ++ Q.Source.waiting self.new.second) }
+        ensures parts { PairTake P.Source.waiting Q.Source.waiting self.old.first self.old.second place.old result place.new self.new.first self.new.second }
+    {
         match self.first.take(place) {
             Err(Refusal::NoneWaiting) => self.second.take(place),
             r => r,

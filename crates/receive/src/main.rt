@@ -6,17 +6,17 @@ ghost use Rattle.std.specs.Prelude.{◌≡◌, ℕ, ◌<◌, ◌≤◌, [], leng
 ghost use Rattle.ring.specs.Ring.{held};
 ghost use Rattle.receive.specs.Line.{Fed};
 
-use anyhow::anyhow;
 use arguments::Arguments;
 use command_line::input::fill;
+use command_line::words::words;
 use line::Line;
 use ports::user_cell::UserCell;
 use receiver::event::EventRecord;
 use receiver::feeding::MOST_OCTETS;
 use ring::ring::Ring;
-use std::io::{BufWriter, ErrorKind, Write};
+use std::io;
+use std::io::{BufWriter, Write};
 use std::process::ExitCode;
-use std::{env, io};
 
 mod arguments;
 mod line;
@@ -39,7 +39,7 @@ fn main(rt: HostRuntime) -> anyhow::Result<ExitCode> {
 }
 
 fn run(rt: &HostRuntime) -> anyhow::Result<ExitCode> {
-    let words = words(rt)?;
+    let words = words(rt, USAGE)?;
     let arguments = match Arguments::parse(&words) {
         Ok(arguments) => arguments,
         Err(fault) => return Ok(fault.refuse(rt, USAGE, &words)?),
@@ -58,21 +58,6 @@ fn run(rt: &HostRuntime) -> anyhow::Result<ExitCode> {
     )?;
     rt.eprintln(line.summary())?;
     Ok(ExitCode::SUCCESS)
-}
-
-// The arguments without the program's name. Not shared with send, which says something else of an argument that is no text.
-fn words(rt: &HostRuntime) -> anyhow::Result<Vec<String>> {
-    match env::args(rt) {
-        Ok(args) => {
-            let words: Vec<String> = args.skip(1).collect(rt.alloc())?;
-            Ok(words)
-        }
-        Err(error) if error.kind() == ErrorKind::InvalidData => {
-            rt.eprintln(USAGE)?;
-            Err(anyhow!("an argument is no text in UTF-8"))
-        }
-        Err(error) => Err(error.into()),
-    }
 }
 
 // Feeds standard input to the line until it ends, and writes out what each feed brings.

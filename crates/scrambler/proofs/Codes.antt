@@ -38,7 +38,7 @@ pub made_carries : (h m o s p : ℕ) → m ≡ header_mask p → o ≡ check_oct
 made_carries h m o s p em eo es =
     ap₂ (λ (x y : ℕ). bit_xor (check_octet (bit_xor h m)) (bit_xor x y)) eo es ∙ xor_again (check_octet (bit_xor h m)) (samples p)
 
-header_mask_lt : (p : ℕ) → header_mask p < 2 ^ 32
+pub header_mask_lt : (p : ℕ) → header_mask p < 2 ^ 32
 unfolding header_mask
 header_mask_lt p = omega (arith, ago_lt 32 p, mod-lt p (pow_pos 31))
 

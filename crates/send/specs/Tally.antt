@@ -5,7 +5,8 @@
 --   raised n by         the counter n, so much up, if it does not stop at its top
 --   counted_cell k t    the tally t with one cell more of kind k; the other counters stay
 --   counted_octets n t  the tally t with n octets more that were read
-use Rattle.std.specs.Prelude.{ℕ, ◌+◌, ◌-◌, ◌^◌, min}
+--   tally_text t        what is printed of the tally t, as octets of text
+use Rattle.std.specs.Prelude.{ℕ, ◌+◌, ◌-◌, ◌^◌, min, List, ◌++◌, codes, decimal}
 use Rattle.cell.specs.declared.header.Kind.{Kind}
 use Rattle.cell.specs.declared.header.Kind.TheVariants.{Idle, F3, User}
 use Rattle.send.specs.declared.tally.Tally.{Tally}
@@ -26,3 +27,8 @@ counted_cell User t = record { octets = t.octets; idle = t.idle; f3 = t.f3; user
 
 abbrev pub counted_octets : ℕ → Tally → Tally
 counted_octets n t = record { octets = raised t.octets n; idle = t.idle; f3 = t.f3; user = t.user }
+
+abbrev pub tally_text : Tally → List ℕ
+tally_text t =
+    codes "octets read " ++ (decimal t.octets ++ (codes "; cells sent: idle " ++ (decimal t.idle
+    ++ (codes ", F3 " ++ (decimal t.f3 ++ (codes ", user " ++ decimal t.user))))))

@@ -1,6 +1,6 @@
 // The arguments: what they ask for, or why they are refused.
-ghost use Rattle.std.specs.Prelude.{◌≡◌, ◌+◌, ◌^◌, ◌<◌, map, length, string_bytes};
-ghost use Rattle.send.specs.Arguments.{in_range, once_more, field_given, header_given, gave, taken, alone, header_of, arguments_of, read_from, parsed};
+ghost use Rattle.std.specs.Prelude.{◌≡◌, ◌+◌, ◌^◌, ◌<◌, Some, map, length, string_bytes};
+ghost use Rattle.send.specs.Arguments.{spelled, in_range, once_more, field_given, header_given, gave, taken, alone, header_of, arguments_of, read_from, parsed, why_text};
 
 use crate::name::Name;
 use cell::header::Header;
@@ -18,6 +18,8 @@ pub struct Arguments {
     pub lead: u32,
     // the header of the block's cells
     pub header: Header,
+    // the number of the word that names the file of the F3 payload
+    pub f3: Option<usize>,
 }
 
 // Why the arguments are refused: what is wrong with the one that a word names.
@@ -41,6 +43,7 @@ pub enum Why {
 
 impl Arguments {
     // What the words ask for, two to an argument: its name and its value.
+    #[tactic(auto, using(crate::proofs::Pairs::asked))]
     pub fn parse(words: &[String]) -> Result<Arguments, Fault<Why>>
         ensures { result ≡ parsed (map string_bytes words.now) }
     {
@@ -63,7 +66,7 @@ fn read(given: Given, at: usize, words: &[String]) -> Result<Given, Fault<Why>>
         }),
         [name, value, rest @ ..] => {
             let given = given
-                .take(name.as_str(), value.as_bytes())
+                .take(name.as_str(), at + 1, value.as_bytes())
                 .map_err(|why| Fault { at, why })?;
             read(given, at + 2, rest)
         }
@@ -88,41 +91,50 @@ struct Given {
     vpi: Option<u8>,
     vci: Option<u16>,
     header: Option<u32>,
+    f3: Option<usize>,
 }
 
 impl Given {
-    // Takes an argument, by its name and its value.
-    fn take(self, name: &str, value: &[u8]) -> Result<Given, Why>
-        ensures { result ≡ taken self name.now value.now }
+    // Takes an argument, by its name and its value, which is word number `at`.
+    fn take(self, name: &str, at: usize, value: &[u8]) -> Result<Given, Why>
+        ensures { result ≡ taken self name.now at value.now }
     {
-        let name: Name = name.parse()?;
-        let value = number::read(value).ok_or(Why::NoNumber)?;
-        self.give(name, value)
+        self.give(name.parse()?, at, value)
     }
 
-    // Gives an argument its value.
-    fn give(self, name: Name, value: u32) -> Result<Given, Why>
-        ensures { result ≡ gave self name value }
+    // Gives an argument its value: a number, or the word that names a file.
+    fn give(self, name: Name, at: usize, value: &[u8]) -> Result<Given, Why>
+        ensures { result ≡ gave self name at value.now }
     {
         match name {
             Name::Phase => Ok(Given {
-                phase: once(self.phase, ranged(value, 1, LAST_PHASE)?)?,
+                phase: once(self.phase, ranged(spelled(value)?, 1, LAST_PHASE)?)?,
                 ..self
             }),
             Name::Lead => Ok(Given {
-                lead: once(self.lead, value)?,
+                lead: once(self.lead, spelled(value)?)?,
                 ..self
             }),
             Name::Vpi => Ok(Given {
-                vpi: self.field(self.vpi, u8::try_from(value).map_err(|_| Why::OutOfRange)?)?,
+                vpi: self.field(
+                    self.vpi,
+                    u8::try_from(spelled(value)?).map_err(|_| Why::OutOfRange)?,
+                )?,
                 ..self
             }),
             Name::Vci => Ok(Given {
-                vci: self.field(self.vci, u16::try_from(value).map_err(|_| Why::OutOfRange)?)?,
+                vci: self.field(
+                    self.vci,
+                    u16::try_from(spelled(value)?).map_err(|_| Why::OutOfRange)?,
+                )?,
                 ..self
             }),
             Name::Header => Ok(Given {
-                header: self.whole(value)?,
+                header: self.whole(spelled(value)?)?,
+                ..self
+            }),
+            Name::F3 => Ok(Given {
+                f3: once(self.f3, at)?,
                 ..self
             }),
         }
@@ -159,6 +171,7 @@ impl Given {
             phase: self.phase.unwrap_or(1),
             lead: self.lead.unwrap_or(32),
             header: Header(self.header_word()),
+            f3: self.f3,
         }
     }
 
@@ -172,6 +185,13 @@ impl Given {
                 + u32::from(self.vci.unwrap_or(100)) * 0x10,
         }
     }
+}
+
+// The number that a value spells.
+fn spelled(value: &[u8]) -> Result<u32, Why>
+    ensures { result ≡ spelled value.now }
+{
+    number::read(value).ok_or(Why::NoNumber)
 }
 
 // A value from the least to the most.
@@ -196,6 +216,8 @@ fn once<T: Copy>(before: Option<T>, value: T) -> Result<Option<T>, Why>
 }
 
 impl fmt::Display for Why {
+    ghost output = { λ why. Some (why_text why) };
+
     fn fmt<W: fmt::Write>(&self, f: &mut fmt::Formatter<W>) -> fmt::Result {
         f.write_str(match *self {
             Why::Unknown => "no such argument",

@@ -1,15 +1,16 @@
 // The line as it goes out: the sending end, its phase, and what was sent so far.
 ghost use Rattle.std.specs.Prelude.{◌≡◌, ◌^◌, ◌<◌, MatchResult};
-ghost use Rattle.sender.specs.Sender.{fresh, started, kind_sent, Sends, StartWhy};
+ghost use Rattle.sender.specs.Sender.{fresh, started, with_f3, kind_sent, Sends, StartWhy};
 ghost use Rattle.send.specs.Tally.{none, counted_cell, counted_octets};
 
+use crate::summary::Summary;
 use crate::tally::Tally;
 use cell::refusal::Refusal;
-use cell::sizes::LINE_OCTETS;
+use cell::sizes::{LINE_OCTETS, PAYLOAD_OCTETS};
 use ports::source::Source;
 use sender::sender::Sender;
 
-#[derive(Clone, Copy)]
+#[derive(Drop)]
 pub struct Line {
     sender: Sender,
     tally: Tally,
@@ -26,6 +27,16 @@ impl Line {
             sender,
             tally: Tally::default(),
         })
+    }
+
+    // Sets the payload of the F3 cells that go out from now on.
+    pub fn set_f3(&mut self, payload: &[u8; PAYLOAD_OCTETS])
+        ensures sender { self.new.sender ≡ with_f3 self.old.sender payload.now }
+        ensures same { self.new.tally ≡ self.old.tally }
+    {
+        let Ok(()) = self.sender.set_f3(payload) else {
+            unreachable!()
+        };
     }
 
     // Sends the next cell, and counts it: its octets on the line.
@@ -46,17 +57,14 @@ impl Line {
         self.tally.count_octets(octets);
     }
 
-    // The phase of the next cell.
-    pub fn phase(&self) -> u32
-        ensures { result ≡ self.now.sender.phase }
+    // What was read and sent so far, and the phase of the next cell.
+    pub fn summary(&self) -> Summary
+        ensures tally { result.tally ≡ self.now.tally }
+        ensures phase { result.phase ≡ self.now.sender.phase }
     {
-        self.sender.phase()
-    }
-
-    // What was read and sent so far.
-    pub fn tally(&self) -> Tally
-        ensures { result ≡ self.now.tally }
-    {
-        self.tally
+        Summary {
+            tally: self.tally,
+            phase: self.sender.phase(),
+        }
     }
 }

@@ -6,31 +6,38 @@ use anyhow::anyhow;
 use arguments::Arguments;
 use blocks::block_source::BlockSource;
 use cell::header::Header;
+use cell::sizes::PAYLOAD_OCTETS;
+use command_line::fault::Fault;
 use command_line::input::fill;
+use command_line::words::{word, words};
+use f3_payload::PayloadError;
 use line::Line;
 use ports::source::CountedSource;
 use std::io::{BufWriter, Write};
 use std::process::ExitCode;
-use std::{env, io};
+use std::{fs, io};
 
 mod arguments;
+mod f3_payload;
 mod line;
 mod name;
+mod summary;
 mod tally;
 
 // So many octets are read at a time. They fill whole cells, so that only the last cell of the block is filled with zeros.
 const PART_OCTETS: usize = 65_520;
 
-// So many cells go out behind the block, for the receiving end to hand up the last of it.
+// So many cells go out behind the block, so that its last bit comes whole also where the receiving end's octets begin elsewhere.
 const TRAIL_CELLS: u32 = 8;
 
 const USAGE: &str =
-    "usage: send [--phase N] [--lead N] [--vpi N] [--vci N] [--header N] < block > line
+    "usage: send [--phase N] [--lead N] [--vpi N] [--vci N] [--header N] [--f3 FILE] < block > line
   --phase N    the phase of the first cell, 1 to 2147483647 (1)
   --lead N     how many cells go out before the block (32)
   --vpi N      virtual path of the block's cells, 0 to 255 (0)
   --vci N      virtual channel of the block's cells, 0 to 65535 (100)
   --header N   their whole header, in place of path and channel; not that of idle cells (1) or F3 cells (9)
+  --f3 FILE    a file of 48 octets, the payload of F3 cells (48 octets 0x6A)
 A number is decimal, or hexadecimal behind 0x.";
 
 fn main(rt: HostRuntime) -> anyhow::Result<ExitCode> {
@@ -38,7 +45,7 @@ fn main(rt: HostRuntime) -> anyhow::Result<ExitCode> {
 }
 
 fn run(rt: &HostRuntime) -> anyhow::Result<ExitCode> {
-    let words = words(rt)?;
+    let words = words(rt, USAGE)?;
     let arguments = match Arguments::parse(&words) {
         Ok(arguments) => arguments,
         Err(fault) => return Ok(fault.refuse(rt, USAGE, &words)?),
@@ -46,18 +53,21 @@ fn run(rt: &HostRuntime) -> anyhow::Result<ExitCode> {
     let Ok(mut line) = Line::start(arguments.phase) else {
         return Err(anyhow!("the phase is out of range"));
     };
+    if let Some(at) = arguments.f3 {
+        match payload_in(rt, word(&words, at)) {
+            Ok(payload) => line.set_f3(&payload),
+            Err(why) => return Ok(Fault { at, why }.refuse(rt, USAGE, &words)?),
+        }
+    }
     let mut part = [0u8; PART_OCTETS];
     send(rt, &mut line, arguments, &mut part)?;
-    let phase = line.phase();
-    let tally = line.tally();
-    eprintln!(rt; "{tally}; phase at the end 0x{phase:08X}")?;
+    rt.eprintln(line.summary())?;
     Ok(ExitCode::SUCCESS)
 }
 
-// The arguments without the program's name. Not shared with receive, which says something else of an argument that is no text.
-fn words(rt: &HostRuntime) -> io::Result<Vec<String>> {
-    let words = env::args(rt)?.skip(1).collect(rt.alloc())?;
-    Ok(words)
+// The payload that a file holds.
+fn payload_in(rt: &HostRuntime, path: &str) -> Result<[u8; PAYLOAD_OCTETS], PayloadError> {
+    f3_payload::read(&mut fs::open(rt, path)?)
 }
 
 // Sends the lead, the block from standard input, and the trail.

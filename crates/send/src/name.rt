@@ -12,6 +12,7 @@ pub enum Name {
     Vpi,
     Vci,
     Header,
+    F3,
 }
 
 // The argument that a word names.
@@ -27,6 +28,7 @@ impl FromStr for Name {
             "--vpi" => Ok(Name::Vpi),
             "--vci" => Ok(Name::Vci),
             "--header" => Ok(Name::Header),
+            "--f3" => Ok(Name::F3),
             _ => Err(Why::Unknown),
         }
     }

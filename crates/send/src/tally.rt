@@ -1,6 +1,6 @@
 // Counts of what was read and sent.
-ghost use Rattle.std.specs.Prelude.{◌≡◌};
-ghost use Rattle.send.specs.Tally.{counted_cell, counted_octets};
+ghost use Rattle.std.specs.Prelude.{◌≡◌, Some};
+ghost use Rattle.send.specs.Tally.{counted_cell, counted_octets, tally_text};
 
 use cell::header::Kind;
 use std::fmt;
@@ -37,6 +37,8 @@ impl Tally {
 }
 
 impl fmt::Display for Tally {
+    ghost output = { λ t. Some (tally_text t) };
+
     fn fmt<W: fmt::Write>(&self, f: &mut fmt::Formatter<W>) -> fmt::Result {
         let Tally {
             octets,

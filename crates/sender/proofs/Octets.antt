@@ -11,9 +11,10 @@ use Rattle.ports.specs.Cell.{Cell, octets}
 use Rattle.ports.proofs.Octets.{header_read}
 use Rattle.scrambler.specs.Coding.{header_mask, sample8, sample7, samples, masked, coded}
 use Rattle.scrambler.specs.Generator.{step, iterate, octet_ahead}
+use Rattle.scrambler.proofs.Codes.{header_mask_lt}
 use Rattle.scrambler.proofs.Masks.{ago_lt, sample7_lt}
 use Rattle.scrambler.proofs.Payloads.{length-masked}
-use Rattle.sender.specs.Told.{Octets}
+use Rattle.sender.specs.Sender.{Octets}
 
 pub all_octets : (xs : List ℕ) → ((i : ℕ) → get_or xs i 0 < 2 ^ 8) → AllByRecursion (λ x. x < 2 ^ 8) xs
 all_octets xs h = All-from_get_or _ xs 0 (λ i _. h i)
@@ -22,16 +23,13 @@ all_octets xs h = All-from_get_or _ xs 0 (λ i _. h i)
 pub payload_octets : (xs : List ℕ) → length xs ≡ 52 → ((i : ℕ) → get_or xs i 0 < 2 ^ 8) → Octets 48 (drop 4 xs)
 payload_octets xs l h = (simp length-drop (omega arith), All-drop _ 4 xs (all_octets xs h))
 
-masked-octets : (xs : List ℕ) (k p : ℕ) → AllByRecursion (λ x. x < 2 ^ 8) xs → AllByRecursion (λ x. x < 2 ^ 8) (masked k p xs)
+pub masked-octets : (xs : List ℕ) (k p : ℕ) → AllByRecursion (λ x. x < 2 ^ 8) xs → AllByRecursion (λ x. x < 2 ^ 8) (masked k p xs)
 unfolding masked octet_ahead
 masked-octets [] k p h = tt
 masked-octets (x ∷ xs) k p h = (xor_lt 8 x (octet_ahead k p) h.0 (mod-lt (iterate (k + 8) step p) (pow_pos 8)), masked-octets xs (k + 8) p h.1)
 
-header_mask_lt : (p : ℕ) → header_mask p < 2 ^ 32
-unfolding header_mask
-header_mask_lt p = omega (arith, ago_lt 32 p, mod-lt p (pow_pos 31))
-
-hec_lt : (h p : ℕ) → h < 2 ^ 32 → bit_xor (check_octet h) (samples p) < 2 ^ 8
+-- of a scrambled header
+pub hec_lt : (h p : ℕ) → h < 2 ^ 32 → bit_xor (check_octet h) (samples p) < 2 ^ 8
 hec_lt h p b =
     let eight : sample8 p < 2 = ago_lt 211 p in
     let seven : sample7 p < 2 = sample7_lt p in

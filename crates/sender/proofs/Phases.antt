@@ -3,7 +3,7 @@ use Rattle.std.proofs.Common.{◌≡◌, ℕ, zero, suc, ◌^◌, ◌<◌, sym, 
 use Rattle.scrambler.specs.Generator.{step, back, iterate, next_phase}
 use Rattle.scrambler.proofs.Steps.{back_step, step_lt, steps_lt, iterate_add}
 
-backs_steps : (n p : ℕ) → p < 2 ^ 31 → iterate n back (iterate n step p) ≡ p
+pub backs_steps : (n p : ℕ) → p < 2 ^ 31 → iterate n back (iterate n step p) ≡ p
 unfolding iterate
 backs_steps zero p h = refl
 backs_steps (suc n) p h =

@@ -13,9 +13,18 @@
 --   StartWhy p e          why a start at phase p is refused with e
 --   StartAnswer s p r s'  what a start at phase p answers, and the sender after it
 --   SendWhy place e       why a send into a place is refused with e
+--   Octets n xs           xs are n octets, each below 256
+--   KindWhy s cells kind  the number of the kind, and why a cell of this kind goes out
 --   Sends                 what an accepted send writes, answers and leaves
 --   SendAnswer            what a send answers and leaves in sender, source and place, also where it is refused
+--   NotAsked kind a b     the source a, which is not asked for an F3 cell, is then the very same
+--   SourceAnswer r a b    what a send leaves of the source a itself, whatever it is: at an F3 cell and where it is refused, a
+--   with_f3 s f           the sender s with the F3 payload f
+--   F3Why f e             why the F3 payload f is refused with e
+--   F3Answer s f r s'     what setting the F3 payload f answers, and the sender after it
 use Rattle.std.specs.Prelude.{◌≡◌, ℕ, ◌+◌, ◌%◌, ◌^◌, ◌<◌, ◌≤◌, cond, ◌⊎◌, List, [], ◌∷◌, length, replicate, Result, MatchResult, ◌==◌, ◌≢◌}
+use Rattle.std.specs.List.{AllByRecursion}
+use Rattle.cell.specs.Header.{kind_number}
 use Rattle.cell.specs.Refusal.{number_of}
 use Rattle.cell.specs.declared.header.Kind.{Kind}
 use Rattle.cell.specs.declared.header.Kind.TheVariants.{Idle, F3, User}
@@ -71,7 +80,7 @@ left_waiting s cells = cond (s.number == 0) cells (rest cells)
 abbrev pub advanced : SenderState → SenderState
 advanced s = record { phase = next_phase s.phase; number = (s.number + 1) % 432; f3 = s.f3 }
 
--- ---- the calls
+-- ---- a start
 
 abbrev pub StartWhy : ℕ → Refusal → Type 0
 StartWhy p BadPhase = (number_of BadPhase ≡ 3) × ((p ≡ 0) ⊎ (2 ^ 31 ≤ p))
@@ -88,6 +97,16 @@ StartWhy p NoOnePhase = ⊥
 abbrev pub StartAnswer : {X : Type 0} → SenderState → ℕ → Result X Refusal → SenderState → Type 0
 StartAnswer s p r s' = MatchResult r (λ _. (0 < p) × (p < 2 ^ 31) × (s' ≡ started s p)) (λ e. StartWhy p e × (s' ≡ s))
 
+-- ---- a send
+
+abbrev pub Octets : ℕ → List ℕ → Type 0
+Octets n xs = (length xs ≡ n) × AllByRecursion (λ x. x < 2 ^ 8) xs
+
+abbrev pub KindWhy : SenderState → List Cell → Kind → Type 0
+KindWhy s cells Idle = (kind_number Idle ≡ 0) × (s.number ≢ 0) × (cells ≡ [])
+KindWhy s cells F3 = (kind_number F3 ≡ 1) × (s.number ≡ 0)
+KindWhy s cells User = (kind_number User ≡ 2) × (s.number ≢ 0) × (cells ≢ [])
+
 abbrev pub SendWhy : List ℕ → Refusal → Type 0
 SendWhy place WrongLength = (number_of WrongLength ≡ 4) × (length place ≢ 53)
 SendWhy place BadPhase = ⊥
@@ -103,6 +122,8 @@ SendWhy place NoOnePhase = ⊥
 -- one cell goes out: s and cells before it, the kind and the 53 octets, s' and cells' after it
 pub record Sends (s : SenderState) (cells : List Cell) (kind : Kind) (line : List ℕ) (s' : SenderState) (cells' : List Cell) : Type 0 where
   pub sort : kind ≡ kind_sent s cells
+  pub why : KindWhy s cells kind
+  pub payload : Octets 48 (cell_sent s cells).payload
   pub written : line ≡ coded s.phase (octets (cell_sent s cells))
   pub after : s' ≡ advanced s
   pub left : cells' ≡ left_waiting s cells
@@ -111,3 +132,29 @@ abbrev pub SendAnswer : SenderState → List Cell → List ℕ → Result Kind R
 SendAnswer s cells place r s' cells' place' =
     MatchResult r (λ kind. (length place ≡ 53) × Sends s cells kind place' s' cells')
     (λ e. SendWhy place e × (s' ≡ s) × (cells' ≡ cells) × (place' ≡ place))
+
+abbrev pub NotAsked : {S : Type 0} → Kind → S → S → Type 0
+NotAsked kind source source' = kind ≡ F3 → source' ≡ source
+
+abbrev pub SourceAnswer : {S : Type 0} → Result Kind Refusal → S → S → Type 0
+SourceAnswer r source source' = MatchResult r (λ kind. NotAsked kind source source') (λ _. source' ≡ source)
+
+-- ---- the setting of the F3 payload
+
+abbrev pub with_f3 : SenderState → List ℕ → SenderState
+with_f3 s f = record { phase = s.phase; number = s.number; f3 = f }
+
+abbrev pub F3Why : List ℕ → Refusal → Type 0
+F3Why f WrongLength = (number_of WrongLength ≡ 4) × (length f ≢ 48)
+F3Why f BadPhase = ⊥
+F3Why f NoOctets = ⊥
+F3Why f TooManyOctets = ⊥
+F3Why f ReservedHeader = ⊥
+F3Why f NotServed = ⊥
+F3Why f NoSpace = ⊥
+F3Why f NoneWaiting = ⊥
+F3Why f BadSampleWord = ⊥
+F3Why f NoOnePhase = ⊥
+
+abbrev pub F3Answer : {X : Type 0} → SenderState → List ℕ → Result X Refusal → SenderState → Type 0
+F3Answer s f r s' = MatchResult r (λ _. Octets 48 f × (s' ≡ with_f3 s f)) (λ e. F3Why f e × (s' ≡ s))

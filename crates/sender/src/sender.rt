@@ -2,8 +2,7 @@
 ghost use Rattle.std.specs.Prelude.{◌≡◌, drop};
 ghost use Rattle.ports.specs.Cell.{octets};
 ghost use Rattle.scrambler.specs.Coding.{coded};
-ghost use Rattle.sender.specs.Sender.{SenderState, IsRunning, fresh, cell_sent, kind_sent, left_waiting, advanced, StartAnswer, Sends, SendAnswer};
-ghost use Rattle.sender.specs.Told.{Octets, KindWhy, SendTold, SendTells, NotAsked, SourceAnswer, F3Answer};
+ghost use Rattle.sender.specs.Sender.{SenderState, IsRunning, fresh, cell_sent, kind_sent, left_waiting, advanced, StartAnswer, Sends, SendAnswer, Octets, KindWhy, NotAsked, SourceAnswer, F3Answer};
 
 use cell::header::{Header, Kind};
 use cell::octets::cell_octets;
@@ -22,8 +21,8 @@ const F3_PERIOD: u16 = 432;
 // Each octet of an idle cell's payload, and of an F3 cell's until another is set.
 const FILL: u8 = 0x6a;
 
-// A sending end. Its phase is never 0, so what it sends is always scrambled.
-#[derive(Clone, Copy)]
+// A sending end. Its phase is never 0, so what it sends is always scrambled. It cannot be copied, so that each has one history.
+#[derive(Drop)]
 pub struct Sender {
     // the phase of the next cell
     phase: u32,
@@ -78,7 +77,6 @@ impl Sender {
     // first in the source, which is then taken from it, or an idle cell where none waits. Refuses a place not of 53 octets.
     pub fn send<S: Source>(&mut self, source: &mut S, place: &mut [u8]) -> Result<Kind, Refusal>
         ensures answer { SendAnswer self.old (S.Source.waiting source.old) place.old result self.new (S.Source.waiting source.new) place.new }
-        ensures told { SendTells self.old (S.Source.waiting source.old) result }
         ensures source { SourceAnswer result source.old source.new }
     {
         let place = place.as_mut_array().ok_or(Refusal::WrongLength)?;
@@ -90,7 +88,6 @@ impl Sender {
     // The same without a place: the kind of the next cell, and its 53 octets.
     pub fn send_next<S: Source>(&mut self, source: &mut S) -> (Kind, [u8; LINE_OCTETS])
         ensures sends { Sends self.old (S.Source.waiting source.old) result.0 result.1 self.new (S.Source.waiting source.new) }
-        ensures told { SendTold self.old (S.Source.waiting source.old) result.0 }
         ensures source { NotAsked result.0 source.old source.new }
     {
         let (kind, cell) = self.choose(source);

@@ -1,4 +1,4 @@
-use Rattle.std.proofs.Common.{◌≡◌, ◌<◌, ◌≤◌, length, string_bytes, ap, sym, ◌∙◌, rules, Ok, Err}
+use Rattle.std.proofs.Common.{◌≡◌, ◌+◌, ◌<◌, ◌≤◌, length, string_bytes, ap, sym, ◌∙◌, rules, Ok, Err}
 use Rattle.send.specs.Arguments.{alone, taken}
 use Rattle.send.proofs.Pairs.{read_none, read_one, read_on, read_fault, by_word}
 use Rattle.send.proofs.arguments.+read.Goals as goal
@@ -20,7 +20,7 @@ pub returns-in_ok-given-in-len2-up : goal.returns-in_ok-given-in-len2-up
 returns-in_ok-given-in-len2-up t c =
     let words = c.args.words.now in
     let some : 2 ≤ length words = search rules in
-    let took : Ok c.in_ok-given-in-len2-up.given ≡ taken c.args.given c.as_str-in-len2-up.result.now c.as_bytes.result.now = search rules in
+    let took : Ok c.in_ok-given-in-len2-up.given ≡ taken c.args.given c.as_str-in-len2-up.result.now (c.args.at + 1) c.as_bytes.result.now = search rules in
     c.read.ensures
     ∙ read_on string_bytes c.args.given c.args.at words c.name-item-2.result c.value-item.result c.as_str-in-len2-up.result.now c.as_bytes.result.now c.in_ok-given-in-len2-up.given
     some c.name-item-2.is c.value-item.is c.as_str-in-len2-up.ensures.value c.as_bytes.ensures.value took

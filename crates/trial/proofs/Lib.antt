@@ -1,0 +1,4 @@
+pub mod Words
+pub mod Standing
+pub mod Counting
+pub mod Rounds

@@ -24,6 +24,7 @@ from functools import partial
 from itertools import zip_longest
 from multiprocessing import Pool
 from pathlib import Path
+from tempfile import TemporaryDirectory
 from typing import Callable, Dict, Iterator, List, NamedTuple, Optional, Tuple
 
 TOP = Path(__file__).resolve().parent.parent
@@ -266,7 +267,7 @@ def drawn_value(draw: Draw, usual: List[int], bits: int) -> int:
 
 
 def drawn_arguments(draw: Draw) -> Dict[str, int]:
-    """Some of the arguments, in any order. A further one of send has its place here, in `header_of` and in `block_line`."""
+    """Some of the arguments whose values are numbers, in any order."""
     values = {"--phase": drawn_value(draw, PHASES, 31) or 1, "--lead": drawn_value(draw, LEADS, 8)}
     if draw.bits(1):
         header = drawn_value(draw, [0, 3, 0x10000001, 0xFFFFFFFF], 32)
@@ -281,10 +282,12 @@ def header_of(arguments: Dict[str, int]) -> int:
     return given.get("--header", given["--vpi"] << 20 | given["--vci"] << 4)
 
 
-def block_line(block: bytes, arguments: Dict[str, int]) -> Tuple[bytes, str, int]:
+def block_line(block: bytes, arguments: Dict[str, int], f3_payload: Optional[bytes]) -> Tuple[bytes, str, int]:
     """What the program send has to write: the line octets, the summary, and the number of cells."""
     given, sender, sent = {**USUAL, **arguments}, Sender(), []
     sender.start(given["--phase"])
+    if f3_payload is not None:
+        sender.set_f3(f3_payload)
     sent += [sender.send([]) for _ in range(given["--lead"])]
     waiting = user_cells(header_of(arguments), block)
     while waiting:
@@ -311,11 +314,18 @@ def compare_block(seed: int, number: int) -> Outcome:
     draw = block_source(seed, number)
     block = draw.octets(block_length(draw, number))
     arguments = drawn_arguments(draw)
-    line, said, cells = block_line(block, arguments)
+    f3_payload = draw.octets(PAYLOAD_OCTETS) if draw.bits(1) else None
+    line, said, cells = block_line(block, arguments, f3_payload)
     words = [word for name, value in arguments.items() for word in (name, spelled(draw, value))]
-    line_got, said_got = run([program("send")] + words, block)
+    with TemporaryDirectory() as folder:
+        if f3_payload is not None:
+            path = Path(folder) / "f3-payload"
+            path.write_bytes(f3_payload)
+            at = 2 * below(draw, len(arguments) + 1)
+            words[at:at] = ["--f3", str(path)]
+        line_got, said_got = run([program("send")] + words, block)
     difference = differing_octets("cell", line_got, line, CELL_OCTETS + 1) or differing_lines("summary", said_got, said)
-    counts = {("block", "blocks"): 1, ("block", "octets read"): len(block), ("block", "cells"): cells, ("block", "octets"): len(line)}
+    counts = {("block", "blocks"): 1, ("block", "with an F3 payload"): f3_payload is not None, ("block", "octets read"): len(block), ("block", "cells"): cells, ("block", "octets"): len(line)}
     return Outcome(f"block {number}", difference and f"{difference} (send {' '.join(words)})", counts)
 
 

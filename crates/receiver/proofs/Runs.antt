@@ -83,7 +83,7 @@ bits_of_append [] ys = refl
 bits_of_append (x ∷ xs) ys = ap (λ l. octet_bits x ++ l) (bits_of_append xs ys) ∙ sym (append_assoc (octet_bits x) (bits_of xs) (bits_of ys))
 
 -- one octet more
-bits_more : (os : List ℕ) (i : ℕ) → i < length os → bits_of (take (i + 1) os) ≡ bits_of (take i os) ++ octet_bits (get_or os i 0)
+pub bits_more : (os : List ℕ) (i : ℕ) → i < length os → bits_of (take (i + 1) os) ≡ bits_of (take i os) ++ octet_bits (get_or os i 0)
 bits_more os i h =
     ap bits_of (take_more os i 0 h) ∙ bits_of_append (take i os) (get_or os i 0 ∷ []) ∙ ap (λ l. bits_of (take i os) ++ l) (append-nil (octet_bits (get_or os i 0)))
 

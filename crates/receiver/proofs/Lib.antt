@@ -2,3 +2,4 @@ pub mod Posting
 pub mod Runs
 pub mod Octets
 pub mod Events
+pub mod Unasked

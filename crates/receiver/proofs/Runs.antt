@@ -91,7 +91,7 @@ unfolding first_bits
 works_no_octet os r k q = works_none r k q
 
 -- one octet more
-bits_more : (os : List ℕ) (i : ℕ) → i < length os → bits_of (take (i + 1) os) ≡ bits_of (take i os) ++ octet_bits (get_or os i 0)
+pub bits_more : (os : List ℕ) (i : ℕ) → i < length os → bits_of (take (i + 1) os) ≡ bits_of (take i os) ++ octet_bits (get_or os i 0)
 bits_more os i h =
     ap bits_of (take_more os i 0 h) ∙ bits_of-append (take i os) (get_or os i 0 ∷ []) ∙ ap (λ l. bits_of (take i os) ++ l) (append-nil (octet_bits (get_or os i 0)))
 

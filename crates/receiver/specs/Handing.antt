@@ -3,6 +3,9 @@
 --   Reply            what handing a cell up came to, where one was handed up: the sink took it, or why it did not
 --   Puts c k r k'    the user cell c is put into a sink that means k before and k' after it: the answer is r
 --   Handed o k r k'  the same of the user cell o, if there is one; where there is none, the sink does not reply
+--   NotAsked o a b   where there is no user cell o, the sink a is not asked: it is then the very same, b
+--   Quiet s bs       over the bits bs, from the tracker s on, no user cell is handed up
+--   Unasked s bs a b  where that is so, the sink a is not asked: it is then the very same, b
 --   Moment           one bit of a feed: the bit, what the sink lent means before and after it, and its reply
 --   bits ms          the bits of moments
 --   Along s k ms k'  the moments ms, one after the other, from the tracker s on: each hands up the cell that its bit completes, and
@@ -30,6 +33,17 @@ abbrev pub Handed : Option Cell → SinkState → Reply → SinkState → Type 0
 Handed None k r k' = (r ≡ None) × (k' ≡ k)
 Handed (Some c) k None k' = ⊥
 Handed (Some c) k (Some r) k' = Puts c k r k'
+
+abbrev pub NotAsked : {K : Type 0} → Option Cell → K → K → Type 0
+NotAsked None sink sink' = sink' ≡ sink
+NotAsked (Some c) sink sink' = ⊤
+
+abbrev pub Quiet : Tracker → List Bool → Type 0
+Quiet s [] = ⊤
+Quiet s (b ∷ bs) = (offered s b ≡ None) × Quiet (step s b) bs
+
+unfoldable pub Unasked : {K : Type 0} → Tracker → List Bool → K → K → Type 0
+Unasked s bs sink sink' = Quiet s bs → sink' ≡ sink
 
 pub record Moment : Type 0 where
   pub bit : Bool

@@ -3,8 +3,8 @@ ghost use Rattle.std.specs.Prelude.{◌≡◌, ◌<◌, ◌≤◌, [], ◌∷◌
 ghost use Rattle.cell.specs.Header.{kind_of};
 ghost use Rattle.receiver.specs.Book.{brought, cell_noted, log_of};
 ghost use Rattle.receiver.specs.Feed.{events_of, Works, FeedAnswer, Untouched, FeedLaws};
-ghost use Rattle.receiver.specs.Handing.{Handed, taken};
-ghost use Rattle.receiver.specs.Run.{bit_at, octet_bits, cell_in, user_cell, user_by};
+ghost use Rattle.receiver.specs.Handing.{Handed, NotAsked, Unasked, taken};
+ghost use Rattle.receiver.specs.Run.{bit_at, octet_bits, bits_of, cell_in, user_cell, user_by};
 
 use crate::event::{EventRecord, SinkCause};
 use crate::handing::hand_up;
@@ -30,6 +30,7 @@ impl Receiver {
     ) -> Option<Result<(), SinkCause>>
         ensures tracker { self.new.tracker ≡ self.old.tracker }
         ensures handed { Handed (user_by (kind_of header.0) (record { header = header.0; payload = self.old.tracker.payload })) (S.Sink.state sink.old) result (S.Sink.state sink.new) }
+        ensures unasked { NotAsked (user_by (kind_of header.0) (record { header = header.0; payload = self.old.tracker.payload })) sink.old sink.new }
         ensures noted { log_of self.new.book events.new ≡ cell_noted (kind_of header.0) self.old.tracker.payload result (log_of self.old.book events.old) }
     {
         match header.kind() {
@@ -55,6 +56,7 @@ impl Receiver {
     ) -> Option<Result<(), SinkCause>>
         ensures tracker { self.new.tracker ≡ self.old.tracker }
         ensures handed { Handed (user_cell (cell_in moment self.old.tracker.payload)) (S.Sink.state sink.old) result (S.Sink.state sink.new) }
+        ensures unasked { NotAsked (user_cell (cell_in moment self.old.tracker.payload)) sink.old sink.new }
         ensures noted { log_of self.new.book events.new ≡ brought moment self.old.tracker.payload result (log_of self.old.book events.old) }
     {
         match moment? {
@@ -67,7 +69,7 @@ impl Receiver {
     }
 
     // One bit of the line, with all that it brings; how many cells the sink took.
-    #[tactic(auto, using(crate::proofs::Runs::works_one))]
+    #[tactic(auto, using(crate::proofs::Runs::works_one, crate::proofs::Unasked::unasked_one))]
     fn take_bit<S: Sink>(
         &mut self,
         bit: bool,
@@ -76,6 +78,7 @@ impl Receiver {
     ) -> u32
         ensures few { result ≤ 1 }
         ensures works { Works self.old (S.Sink.state sink.old) (events_of events.old) (bit ∷ []) result self.new (S.Sink.state sink.new) (events_of events.new) }
+        ensures unasked { Unasked self.old.tracker (bit ∷ []) sink.old sink.new }
     {
         let moment = self.tracker.push_bit(bit);
         self.book.count_bit();
@@ -84,7 +87,7 @@ impl Receiver {
     }
 
     // One octet, the most significant bit first.
-    #[tactic(auto, using(crate::proofs::Runs::works_none, crate::proofs::Runs::works_same, crate::proofs::Octets::works_bit, crate::proofs::Octets::all_eight))]
+    #[tactic(auto, using(crate::proofs::Runs::works_none, crate::proofs::Runs::works_same, crate::proofs::Octets::all_eight, crate::proofs::Unasked::unasked_kept, crate::proofs::Unasked::unasked_same))]
     fn take_octet<S: Sink>(
         &mut self,
         octet: u8,
@@ -93,6 +96,7 @@ impl Receiver {
     ) -> u32
         ensures few { result ≤ 8 }
         ensures works { Works self.old (S.Sink.state sink.old) (events_of events.old) (octet_bits octet) result self.new (S.Sink.state sink.new) (events_of events.new) }
+        ensures unasked { Unasked self.old.tracker (octet_bits octet) sink.old sink.new }
     {
         let mut taken = 0;
         // over the numbers of the bits: an octet is no list of them
@@ -103,7 +107,7 @@ impl Receiver {
     }
 
     // Takes 1 to 4,096 octets of the line, and answers how many cells the sink took. Refuses no octets, and more than 4,096.
-    #[tactic(auto, using(crate::proofs::Runs::works_no_octet, crate::proofs::Runs::works_octet, crate::proofs::Runs::feeds))]
+    #[tactic(auto, using(crate::proofs::Runs::works_no_octet, crate::proofs::Runs::works_octet, crate::proofs::Runs::feeds, crate::proofs::Unasked::unasked_kept, crate::proofs::Unasked::unasked_octet, crate::proofs::Unasked::unasked_all))]
     pub fn feed<S: Sink>(
         &mut self,
         octets: &[u8],
@@ -112,6 +116,7 @@ impl Receiver {
     ) -> Result<u32, Refusal>
         ensures answer { FeedAnswer octets.now self.old (S.Sink.state sink.old) (events_of events.old) result self.new (S.Sink.state sink.new) (events_of events.new) }
         ensures untouched { Untouched result sink.old sink.new events.old events.new }
+        ensures unasked { Unasked self.old.tracker (bits_of octets.now) sink.old sink.new }
     {
         if octets.is_empty() {
             return Err(Refusal::NoOctets);

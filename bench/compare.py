@@ -40,20 +40,8 @@ from receiver import Acquisition, Descrambler, Event, Receiver, Steady, Verifica
 from send import TRAIL, user_cells
 from sender import Sender
 from sinks import Ring
+from words import DESCRAMBLER_WORDS, EVENT_WORDS, event_words, readings_words
 
-EVENTS = {
-    (1, 1): "header: mended",
-    (1, 2): "header: discarded",
-    (2, 1): "boundary: PRESYNC",
-    (2, 2): "boundary: SYNC",
-    (2, 3): "boundary: lost from PRESYNC",
-    (2, 4): "boundary: lost from SYNC",
-    (3, 1): "descrambler: verification",
-    (3, 2): "descrambler: steady state",
-    (3, 3): "descrambler: back to acquisition",
-}
-
-DESCRAMBLERS = {Acquisition: "acquisition", Verification: "verification", Steady: "steady state"}
 CONFIDENCES = {Acquisition: (0, 15), Verification: (VERIFICATION_LEAST, 23), Steady: (STEADY_LEAST, FULL_CONFIDENCE)}
 
 # Blocks that are empty, or end around a cell, around a part that is read at a time, or around two.
@@ -131,7 +119,7 @@ class Watched(Receiver):
             if boundary == PRESYNC:
                 self.came("PRESYNC left", f"for {boundary_after} with {headers} confirming headers")
             if boundary == SYNC:
-                self.came("SYNC left", f"from {DESCRAMBLERS[type(descrambler)]}")
+                self.came("SYNC left", f"from {DESCRAMBLER_WORDS[type(descrambler)]}")
         if boundary == boundary_after == SYNC and headers > headers_after:
             self.came("wrong headers in a row ended", str(headers))
         self.descrambled(descrambler, after, boundary_after)
@@ -139,7 +127,7 @@ class Watched(Receiver):
             self.came("mode", f"{mode} to {self.mode}")
 
     def descrambled(self, before: Descrambler, after: Descrambler, boundary_after: str) -> None:
-        name, name_after = DESCRAMBLERS[type(before)], DESCRAMBLERS[type(after)]
+        name, name_after = DESCRAMBLER_WORDS[type(before)], DESCRAMBLER_WORDS[type(after)]
         self.came(f"confidence in {name_after}", str(after.confidence))
         if name == name_after:
             if after.confidence > before.confidence:
@@ -164,7 +152,7 @@ class Watched(Receiver):
 # All that has to come, by table.
 WANTED: Dict[str, List[str]] = {
     "kind": list(KINDS),
-    "event": list(EVENTS.values()),
+    "event": [words for (layer, _), words in EVENT_WORDS.items() if layer < 4],
     # a mended header never brings Acquisition: at the least confidence the header before was wrong, so the mode is detection
     "events of one header": [
         "discarded, back to acquisition",
@@ -173,7 +161,7 @@ WANTED: Dict[str, List[str]] = {
     ],
     "boundary": [f"{HUNT} to {PRESYNC}", f"{PRESYNC} to {SYNC}", f"{PRESYNC} to {HUNT}", f"{SYNC} to {HUNT}"],
     "PRESYNC left": [f"for {HUNT} with {headers} confirming headers" for headers in range(HEADERS_TO_SYNC - 1)] + [f"for {SYNC} with 7 confirming headers"],
-    "SYNC left": [f"from {name}" for name in DESCRAMBLERS.values()],
+    "SYNC left": [f"from {name}" for name in DESCRAMBLER_WORDS.values()],
     "wrong headers in a row ended": [str(count) for count in range(1, WRONG_TO_HUNT)],
     "descrambler": [
         "acquisition goes on, confidence rises",
@@ -194,10 +182,10 @@ WANTED: Dict[str, List[str]] = {
     "mended bit": [str(bit) for bit in range(HEADER_BITS)],
     "SYNC by bit of the octet": [str(bit) for bit in range(8)],
 }
-WANTED.update((f"confidence in {name}", [str(c) for c in range(CONFIDENCES[kind][0], CONFIDENCES[kind][1] + 1)]) for kind, name in DESCRAMBLERS.items())
+WANTED.update((f"confidence in {name}", [str(c) for c in range(CONFIDENCES[kind][0], CONFIDENCES[kind][1] + 1)]) for kind, name in DESCRAMBLER_WORDS.items())
 
 # Tables of many rows, of which the rarest is printed.
-LONG_TABLES = ["mended bit"] + [f"confidence in {name}" for name in DESCRAMBLERS.values()]
+LONG_TABLES = ["mended bit"] + [f"confidence in {name}" for name in DESCRAMBLER_WORDS.values()]
 
 
 def summary(octets: int, receiver: Receiver) -> str:
@@ -212,7 +200,7 @@ def summary(octets: int, receiver: Receiver) -> str:
         f"headers: mended {counters['mended']}, discarded {counters['discarded']}\n"
         f"events: lost {counters['lost']}\n"
         f"boundary: {boundary}{words}\n"
-        f"descrambler: {DESCRAMBLERS[type(descrambler)]}, confidence {descrambler.confidence}{phase}\n"
+        f"descrambler: {DESCRAMBLER_WORDS[type(descrambler)]}, confidence {descrambler.confidence}{phase}\n"
         f"mode: {receiver.mode}\n"
     )
 
@@ -225,7 +213,7 @@ def compare_line(seed: int, number: int) -> Outcome:
         receiver.feed(octets[at:at + FEED_LIMIT], sink, ring)
         cells += sink.take_all()
         events += ring.take_all()
-    listed = "".join(f"bit {event.bit}: {EVENTS[event.layer, event.cause]}\n" for event in events)
+    listed = "".join(f"{event_words(event)}\n" for event in events)
     cells_got, said = run([program("receive"), "--events"], octets)
     payloads_got, said_of_payloads = run([program("receive"), "--payloads"], octets)
     difference = (
@@ -242,7 +230,7 @@ def line_counts(octets: int, bits: Dict[str, int], receiver: Watched, events: Li
     counts.update({("kind", kind): count for kind, count in bits.items()})
     at_bit: Dict[int, List[str]] = {}
     for event in events:
-        words = EVENTS[event.layer, event.cause]
+        words = EVENT_WORDS[event.layer, event.cause]
         counts["event", words] += 1
         at_bit.setdefault(event.bit, []).append(words.split(": ")[1])
         if (event.layer, event.cause) == (2, 2):

@@ -5,32 +5,16 @@ from typing import Dict, List, NamedTuple, Optional
 
 from bits import octets_of, bits_of_octets
 from coding import PAYLOAD_OCTETS
-from receiver import FEED_LIMIT, HUNT, PRESYNC, SYNC, Acquisition, Event, Receiver, Steady, Verification
+from receiver import FEED_LIMIT, Receiver
 from refusal import Refused
 from sender import F3, USER, Sender
 from sinks import RING_LIMIT, Ring
+from words import event_words, readings_words
 
 CELL_BITS = 424
 HEADER = 100 << 4
 FILL, NOISE = 0x55, 0xA5
 LAST_NUMBER = 2 ** 32 - 1
-
-EVENT_WORDS = {
-    (1, 1): "header: mended",
-    (1, 2): "header: discarded",
-    (2, 1): "boundary: PRESYNC",
-    (2, 2): "boundary: SYNC",
-    (2, 3): "boundary: lost from PRESYNC",
-    (2, 4): "boundary: lost from SYNC",
-    (3, 1): "descrambler: verification",
-    (3, 2): "descrambler: steady state",
-    (3, 3): "descrambler: back to acquisition",
-    (4, 1): "sink: full",
-    (4, 2): "sink: not served",
-}
-
-DESCRAMBLER_WORDS = {Acquisition: "acquisition", Verification: "verification", Steady: "steady state"}
-
 
 class Command(NamedTuple):
     name: str
@@ -144,27 +128,6 @@ class Trial:
 
     def summary(self) -> List[str]:
         return [f"cells: {self.total.words()}"] + readings_words(self.receiver)
-
-
-def readings_words(receiver: Receiver) -> List[str]:
-    """All that can be read of a receiving end but the last F3 payload."""
-    readings, counters, descrambler = receiver.readings(), receiver.counters, receiver.descrambler
-    headers = {HUNT: "", PRESYNC: f", confirming headers {readings.headers}", SYNC: f", wrong headers in a row {readings.headers}"}
-    phase = "" if isinstance(descrambler, Acquisition) else f", phase of the last cell 0x{descrambler.phase:08X}"
-    return [
-        f"bits: {readings.bits}",
-        f"user cells: taken {counters['taken']}, full {counters['full']}, not served {counters['unserved']}",
-        f"F3 cells: {counters['f3']}",
-        f"headers: mended {counters['mended']}, discarded {counters['discarded']}",
-        f"events: lost {counters['lost']}",
-        f"boundary: {readings.delineation}{headers[readings.delineation]}",
-        f"descrambler: {DESCRAMBLER_WORDS[type(descrambler)]}, confidence {descrambler.confidence}{phase}",
-        f"mode: {readings.mode}",
-    ]
-
-
-def event_words(event: Event) -> str:
-    return f"bit {event.bit}: {EVENT_WORDS[event.layer, event.cause]}"
 
 
 def output(script: str) -> List[str]:

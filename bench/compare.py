@@ -189,20 +189,10 @@ LONG_TABLES = ["mended bit"] + [f"confidence in {name}" for name in DESCRAMBLER_
 
 
 def summary(octets: int, receiver: Receiver) -> str:
-    """As the program receive writes it."""
-    counters, (boundary, headers), descrambler = receiver.counters, receiver.delineation(), receiver.descrambler
-    words = {HUNT: "", PRESYNC: f", confirming headers {headers}", SYNC: f", wrong headers in a row {headers}"}[boundary]
-    phase = "" if isinstance(descrambler, Acquisition) else f", phase of the last cell 0x{descrambler.phase:08X}"
-    return (
-        f"line: octets {octets}, bits {receiver.bit_count}\n"
-        f"user cells: written {counters['taken']}; taken {counters['taken']}, full {counters['full']}, not served {counters['unserved']}\n"
-        f"F3 cells: {counters['f3']}\n"
-        f"headers: mended {counters['mended']}, discarded {counters['discarded']}\n"
-        f"events: lost {counters['lost']}\n"
-        f"boundary: {boundary}{words}\n"
-        f"descrambler: {DESCRAMBLER_WORDS[type(descrambler)]}, confidence {descrambler.confidence}{phase}\n"
-        f"mode: {receiver.mode}\n"
-    )
+    """As the program receive writes it: its own two lines, and the readings below the bits and the user cells."""
+    taken, full, unserved = (receiver.counters[name] for name in ("taken", "full", "unserved"))
+    own = [f"line: octets {octets}, bits {receiver.bit_count}", f"user cells: written {taken}; taken {taken}, full {full}, not served {unserved}"]
+    return "\n".join(own + readings_words(receiver)[2:]) + "\n"
 
 
 def compare_line(seed: int, number: int) -> Outcome:

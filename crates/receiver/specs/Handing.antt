@@ -5,7 +5,7 @@
 --   Handed o k r k'  the same of the user cell o, if there is one; where there is none, the sink does not reply
 --   NotAsked o a b   where there is no user cell o, the sink a is not asked: it is then the very same, b
 --   Quiet s bs       over the bits bs, from the tracker s on, no user cell is handed up
---   Unasked s bs a b where that is so, the sink a is not asked: it is then the very same, b
+--   Unasked s bs a b  where that is so, the sink a is not asked: it is then the very same, b
 --   Moment           one bit of a feed: the bit, what the sink lent means before and after it, and its reply
 --   bits ms          the bits of moments
 --   Along s k ms k'  the moments ms, one after the other, from the tracker s on: each hands up the cell that its bit completes, and

@@ -2,9 +2,10 @@
 // standard error, and the events before it where they are asked for.
 #![tactic(auto)]
 
-ghost use Rattle.std.specs.Prelude.{◌≡◌, ℕ, ◌<◌, ◌≤◌, [], length};
+ghost use Rattle.std.specs.Prelude.{◌≡◌, ℕ, ◌<◌, ◌≤◌, [], length, OnOk};
 ghost use Rattle.ring.specs.Ring.{held};
 ghost use Rattle.receive.specs.Line.{Fed};
+ghost use Rattle.receive.specs.Output.{Passed};
 
 use arguments::Arguments;
 use command_line::input::fill;
@@ -80,14 +81,43 @@ fn receive(
         if came == 0 {
             break;
         }
-        feed(line, &octets[0..came], cells, events);
-        output::write_cells(cells, arguments.payloads, &mut out)?;
-        output::list_events(events, arguments.events, &mut listing)?;
+        pass_on(
+            line,
+            &octets[0..came],
+            arguments,
+            cells,
+            events,
+            &mut out,
+            &mut listing,
+        )?;
         if came < octets.len() {
             break;
         }
     }
     out.flush()
+}
+
+// Feeds octets, and writes out all that they bring.
+#[tactic(auto, using(crate::proofs::Written::passed_on))]
+fn pass_on<W: Write, L: Write>(
+    line: &mut Line,
+    octets: &[u8],
+    arguments: Arguments,
+    cells: &mut Ring<'_, UserCell>,
+    events: &mut Ring<'_, EventRecord>,
+    out: &mut W,
+    listing: &mut L,
+) -> io::Result<()>
+    requires some { 0 < length octets.now }
+    requires few { length octets.now ≤ 4096 }
+    requires empty { (held cells.old ≡ []) × (held events.old ≡ []) }
+    ensures emptied { OnOk result ((held cells.new ≡ []) × (held events.new ≡ [])) }
+    ensures passed { OnOk result (Passed arguments octets.now line.old cells.old events.old (W.contents out.old) (L.contents listing.old) line.new (W.contents out.new) (L.contents listing.new)) }
+{
+    feed(line, octets, cells, events);
+    output::write_cells(cells, arguments.payloads, out)?;
+    output::list_events(events, arguments.events, listing)?;
+    Ok(())
 }
 
 // One feed, into empty rings. It is not refused.

@@ -68,9 +68,7 @@ def program(name: str) -> str:
 
 
 def build() -> None:
-    for name in ["send", "receive"]:
-        for command in ["check", "run"]:
-            subprocess.run(["rt", command], cwd=TOP / "crates" / name, stdin=subprocess.DEVNULL, stdout=subprocess.DEVNULL, stderr=subprocess.DEVNULL, check=True)
+    subprocess.run([str(TOP / "tools" / "build.sh"), "send", "receive"], check=True)
 
 
 def run(words: List[str], octets: bytes) -> Tuple[bytes, str]:

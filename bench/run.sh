@@ -10,9 +10,7 @@ runs=3
 made=target/bench
 mkdir -p "$made"
 
-for program in send receive; do
-    (cd "crates/$program" && rt check > /dev/null && rt run < /dev/null > /dev/null 2>&1)
-done
+tools/build.sh send receive
 rustc -O --edition 2021 -o "$made/baseline" bench/baseline.rs
 
 python3 -c "

@@ -2,13 +2,15 @@
 --
 --   Carried q x     the send x wrote its cell at the phase q: the coded header and the masked payload, as bits
 --   CarriedOn q xs  the sends xs, one after the other, the first at the phase q
-use Rattle.std.proofs.Common.{◌≡◌, ℕ, ◌^◌, ◌<◌, List, [], ◌∷◌}
+--   sent_user x     the user cell of the send x, if it is one
+use Rattle.std.proofs.Common.{◌≡◌, ℕ, ◌^◌, ◌<◌, List, [], ◌∷◌, Some, Option}
 use Rattle.cell.specs.Header.{kind_of}
+use Rattle.ports.specs.Cell.{Cell}
 use Rattle.scrambler.specs.Coding.{masked}
 use Rattle.scrambler.specs.Generator.{next_phase}
 use Rattle.sender.specs.Sender.{Octets}
 use Rattle.sender.specs.Stream.{Send}
-use Rattle.receiver.specs.Run.{bits_of}
+use Rattle.receiver.specs.Run.{bits_of, user_cell}
 use Rattle.line.specs.Laws.{header_bits, payload_bits}
 use Rattle.line.proofs.CodeLaws.{head_octets}
 
@@ -24,3 +26,6 @@ pub record Carried (q : ℕ) (x : Send) : Type 0 where
 abbrev pub CarriedOn : ℕ → List Send → Type 0
 CarriedOn q [] = Unit {0}
 CarriedOn q (x ∷ xs) = Carried q x × CarriedOn (next_phase q) xs
+
+abbrev pub sent_user : Send → Option Cell
+sent_user x = user_cell (Some x.cell)

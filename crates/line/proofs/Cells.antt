@@ -1,17 +1,20 @@
 -- One cell, bit by bit: where the end stands while a payload and a header come in, and the payload that it collects.
--- Knows nothing of sinks, nor of the check octet and the generator.
+-- Knows nothing of sinks and of the check octet, and of the scrambler only that it keeps the length of a payload.
 --
---   at m a        the state in the mode m at the place a
---   At s m a      the end s is in that state, with room for a payload
---   paying j k l  in a payload, with j bits to come after the next
---   on bs j       j, and one more for each of the bits bs
---   Cut n w       n bits of w, one more, and the rest
+--   at m a          the state in the mode m at the place a
+--   At s m a        the end s is in that state, with room for a payload
+--   synced n c q u  SYNC after n wrong headers in a row, and Steady with the confidence c, the phase q and the samples u
+--   paying j k l    in a payload, with j bits to come after the next
+--   on bs j         j, and one more for each of the bits bs
+--   Cut n w         n bits of w, one more, and the rest
 use Rattle.std.proofs.Common.{◌≡◌, ℕ, zero, suc, ◌+◌, ◌-◌, ◌*◌, ◌/◌, ◌%◌, ◌^◌, ◌<◌, ◌≤◌, Bool, true, false, cond, ltb, List, [], ◌∷◌, ◌++◌, length, take, drop, set, Some, None, Option, sym, refl, ap, ◌∙◌, subst, ap₂, append_assoc, arith, length-set, le-ltb, lt-ltb}
 use native.Mathlib.Decide.{dec_lt}
 use lib.Seq.{set_split}
 use Rattle.cell.specs.declared.header.Header as headers
 use Rattle.scrambler.proofs.Payloads.{length-masked}
 use Rattle.tracker.specs.declared.state.Mode.{Mode}
+use Rattle.tracker.specs.declared.state.Delineation.TheVariants.{Sync}
+use Rattle.tracker.specs.declared.state.Descrambler.TheVariants.{Steady}
 use Rattle.tracker.specs.declared.state.Lock.{Lock}
 use Rattle.tracker.specs.declared.state.Place.{Place}
 use Rattle.tracker.specs.declared.state.Place.TheVariants.{Hunt, Payload, Header}
@@ -29,6 +32,9 @@ at m p = record { mode = m; place = p }
 pub record At (s : Tracker) (m : Mode) (p : Place) : Type 0 where
   pub control : s.control ≡ at m p
   pub long : length s.payload ≡ 48
+
+abbrev pub synced : ℕ → ℕ → ℕ → ℕ → Lock
+synced n c q u = record { delineation = Sync n; descrambler = Steady c q; samples = u }
 
 abbrev pub paying : ℕ → Option headers.Header → Lock → Place
 paying j k l = Payload (j / 8) (j % 8) k l

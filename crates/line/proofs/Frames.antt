@@ -1,6 +1,5 @@
 -- The cells of a sent stream as frames, and the user cells among them. Knows of sinks only what an offer adds to a connection.
 --
---   sent_user x     the user cell of the send x, if it is one
 --   frames xs       the cells of sends, each as header and payload
 --   from_cell d xs  what the sends xs offer, one after the other, where the first d of them offer nothing
 use Rattle.std.proofs.Common.{◌≡◌, ℕ, zero, suc, ◌≤◌, Bool, true, false, cond, eqb, List, [], ◌∷◌, ◌++◌, map, length, get_or, take, drop, Some, None, Option, sym, refl, ap, ◌∙◌, arith}
@@ -11,15 +10,12 @@ use Rattle.scrambler.specs.Generator.{next_phase}
 use Rattle.sender.specs.Stream.{Send, line_of, lost, sent_users}
 use Rattle.receiver.specs.Run.{bits_of, user_cell}
 use Rattle.line.specs.Laws.{header_bits, payload_bits}
-use Rattle.line.proofs.Carried.{Carried, CarriedOn}
+use Rattle.line.proofs.Carried.{Carried, CarriedOn, sent_user}
 use Rattle.line.proofs.CodeLaws.{CodeLaws}
 use Rattle.line.proofs.Gained.{gained_all}
 use Rattle.line.proofs.Offers.{Frame, flat, Sized}
 use Rattle.line.proofs.Sends.{stream_bits, header_long_lem, payload_long_lem, listed, listed_is_lost, sent_user_is}
 use Rattle.line.proofs.Puts.{gained}
-
-abbrev pub sent_user : Send → Option Cell
-sent_user x = user_cell (Some x.cell)
 
 abbrev pub frames : List Send → List Frame
 frames [] = []

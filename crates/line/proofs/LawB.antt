@@ -22,10 +22,10 @@ use Rattle.receiver.proofs.Runs.{after-append}
 use Rattle.line.specs.Heard.{Heard, Gains, ReadyAt, Begins}
 use Rattle.line.specs.Laws.{header_bits, payload_bits, complete, ReadyFrom, StreamGained}
 use Rattle.line.proofs.Bits.{value, window_header}
-use Rattle.line.proofs.Carried.{Carried, CarriedOn}
+use Rattle.line.proofs.Carried.{Carried, CarriedOn, sent_user}
 use Rattle.line.proofs.Cells.{at, At, long_run}
 use Rattle.line.proofs.CodeLaws.{CodeLaws, moved, trail}
-use Rattle.line.proofs.Frames.{sent_user, frames, flat_frames, sized_frames, from_cell, from_none, from_gained, SentAt, sent_at}
+use Rattle.line.proofs.Frames.{frames, flat_frames, sized_frames, from_cell, from_none, from_gained, SentAt, sent_at}
 use Rattle.line.proofs.Gained.{hands_of, all_gained}
 use Rattle.line.proofs.Offers.{Brings, Sized, flat, rows_offers, brings_long, flat_long}
 use Rattle.line.proofs.Runs.{length-bits, heard-rest}

@@ -16,12 +16,11 @@ use Rattle.receiver.proofs.Runs.{after-append, bits-append}
 use Rattle.line.specs.Heard.{Heard, ReadyAt, Begins, join}
 use Rattle.line.specs.Laws.{header_bits, complete, InStep, Right, Follows, Undamaged, StaysInStep, BurstSurvived}
 use Rattle.line.proofs.Bits.{value}
-use Rattle.line.proofs.Carried.{Carried, CarriedOn}
-use Rattle.line.proofs.Cells.{At, long_run}
+use Rattle.line.proofs.Carried.{Carried, CarriedOn, sent_user}
+use Rattle.line.proofs.Cells.{At, long_run, synced}
 use Rattle.line.proofs.CodeLaws.{CodeLaws, moved}
-use Rattle.line.proofs.Frames.{sent_user, sent_gained}
+use Rattle.line.proofs.Frames.{sent_gained}
 use Rattle.line.proofs.Gained.{Row, hands_of, gained_row}
-use Rattle.line.proofs.SentHeaders.{synced}
 use Rattle.line.proofs.Offers.{flat, Sized, rows_offers}
 use Rattle.line.proofs.Reached.{fine_run}
 use Rattle.line.proofs.RightHeader.{Cleared, right_clears}

@@ -26,9 +26,9 @@ use Rattle.line.specs.Headers.{hunting}
 use Rattle.line.specs.Laws.{header_bits, payload_bits}
 use Rattle.line.proofs.Bits.{value, window_header}
 use Rattle.line.proofs.Carried.{Carried, CarriedOn}
-use Rattle.line.proofs.Cells.{at, At, long_run, Cut, cut_bits, nil_of}
+use Rattle.line.proofs.Cells.{at, At, long_run, Cut, cut_bits, nil_of, synced}
 use Rattle.line.proofs.CodeLaws.{CodeLaws, moved, trail}
-use Rattle.line.proofs.SentHeaders.{synced, steady, verifying, acquiring, bound_at, bound_next, verify_next, verify_last, acquire_next, sampled_trail, sampled_first, steady_sent}
+use Rattle.line.proofs.SentHeaders.{steady, verifying, acquiring, bound_at, bound_next, verify_next, verify_last, acquire_next, sampled_trail, sampled_first, steady_sent}
 use Rattle.line.proofs.Offers.{whole_of}
 use Rattle.line.proofs.Sends.{cell_bits, moved_next, header_long_lem, payload_long_lem, header_agrees, header_samples}
 

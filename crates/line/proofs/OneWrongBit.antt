@@ -29,13 +29,13 @@ use Rattle.receiver.proofs.Runs.{after-append, bits-append}
 use Rattle.line.specs.Heard.{Heard, Gains, ReadyAt}
 use Rattle.line.specs.Laws.{header_bits, payload_bits, InStep, Right, differing, mended_only, Restored, OneBitMended}
 use Rattle.line.proofs.Bits.{value, window_header}
-use Rattle.line.proofs.Carried.{Carried}
+use Rattle.line.proofs.Carried.{Carried, sent_user}
 use Rattle.line.proofs.CellOffers.{offers, offers_append, length_offers, pay_offers, offered_last}
-use Rattle.line.proofs.Cells.{at, At, paying, on, on_length, head_run, long_run}
+use Rattle.line.proofs.Cells.{at, At, paying, on, on_length, head_run, long_run, synced}
 use Rattle.line.proofs.CodeLaws.{CodeLaws}
-use Rattle.line.proofs.Frames.{sent_user, sent_gained}
+use Rattle.line.proofs.Frames.{sent_gained}
 use Rattle.line.proofs.Gained.{Hands, hands_of, cell_gains, ready_front}
-use Rattle.line.proofs.SentHeaders.{synced, sent_up}
+use Rattle.line.proofs.SentHeaders.{sent_up}
 use Rattle.line.proofs.LawC.{right_cleared}
 use Rattle.line.proofs.Offers.{Body, body as payload-first}
 use Rattle.line.proofs.RightHeader.{Cleared}

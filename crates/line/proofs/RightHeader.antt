@@ -26,8 +26,7 @@ use Rattle.tracker.specs.Rules.{both, found_phase, hold, descrambler_after, righ
 use Rattle.tracker.specs.Tracker.{control_after}
 use Rattle.receiver.specs.Run.{step, after}
 use Rattle.line.proofs.Bits.{value, window_header}
-use Rattle.line.proofs.Cells.{at}
-use Rattle.line.proofs.SentHeaders.{synced}
+use Rattle.line.proofs.Cells.{at, synced}
 use Rattle.line.proofs.Reached.{Sure, raised, raised_is, Fine, step_last}
 
 no_way : {A : Type 0} → ◌≡◌ {A = ℕ} 0 1 → A

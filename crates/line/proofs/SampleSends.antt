@@ -1,4 +1,4 @@
--- A sender for which a user cell always waits: its sends, and a history of its calls. Knows nothing of coding.
+-- A sender for which a user cell always waits: its sends, and a history of its calls. Knows of coding only that it is done.
 --
 --   sample_cell   a user cell, of the connection sample_connection
 --   send_on s     what the sender s sends where that cell waits

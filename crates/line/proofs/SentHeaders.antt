@@ -1,6 +1,5 @@
 -- One header as sent, in each state of the end, and its cell. Knows the code by the record CodeLaws only.
 --
---   synced n c q u                                SYNC after n wrong headers in a row, and Steady with the confidence c, the phase q and the samples u
 --   steady q u, verifying c q u, acquiring b c u  what is known in each state of the descrambler, where every header was right
 --   bound_at c                                    the boundary after c agreeing headers in a row
 use Rattle.std.proofs.Common.{◌≡◌, ℕ, suc, ◌+◌, ◌-◌, ◌*◌, ◌%◌, ◌^◌, ◌<◌, ◌≤◌, Bool, true, false, cond, eqb, ltb, List, Some, None, refl, ap, ◌∙◌, subst, true≢false, arith, le-ltb, lt-ltb, eq-eqb}
@@ -29,15 +28,11 @@ use Rattle.receiver.specs.Run.{user_cell}
 use Rattle.line.specs.Headers.{hunting}
 use Rattle.line.specs.Laws.{header_bits, payload_bits}
 use Rattle.line.proofs.Bits.{value}
-use Rattle.line.proofs.Carried.{Carried}
+use Rattle.line.proofs.Carried.{Carried, sent_user}
 use Rattle.line.proofs.CellOffers.{cell_from}
-use Rattle.line.proofs.Cells.{at}
+use Rattle.line.proofs.Cells.{at, synced}
 use Rattle.line.proofs.CodeLaws.{CodeLaws, moved, trail}
-use Rattle.line.proofs.Frames.{sent_user}
 use Rattle.line.proofs.Sends.{header_clean, header_descrambled, payload_descrambled}
-
-abbrev pub synced : ℕ → ℕ → ℕ → ℕ → Lock
-synced n c q u = record { delineation = Sync n; descrambler = Steady c q; samples = u }
 
 abbrev pub steady : ℕ → ℕ → Lock
 steady q u = synced 0 24 q u

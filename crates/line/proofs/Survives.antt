@@ -34,12 +34,11 @@ use Rattle.receiver.proofs.Runs.{after-append}
 use Rattle.line.specs.Heard.{Begins}
 use Rattle.line.specs.Laws.{InStep}
 use Rattle.line.proofs.Bits.{value}
-use Rattle.line.proofs.Carried.{Carried, CarriedOn}
+use Rattle.line.proofs.Carried.{Carried, CarriedOn, sent_user}
 use Rattle.line.proofs.CellOffers.{cell_from}
-use Rattle.line.proofs.Cells.{at, At}
+use Rattle.line.proofs.Cells.{at, At, synced}
 use Rattle.line.proofs.CodeLaws.{CodeLaws, moved}
-use Rattle.line.proofs.Frames.{sent_user}
-use Rattle.line.proofs.SentHeaders.{synced, clean_taken, sent_up}
+use Rattle.line.proofs.SentHeaders.{clean_taken, sent_up}
 use Rattle.line.proofs.Offers.{Frame, flat, Brings, first_of, whole_of}
 use Rattle.line.proofs.Reached.{raised, raised_is}
 use Rattle.line.proofs.Sends.{moved_next, header_clean, header_descrambled}

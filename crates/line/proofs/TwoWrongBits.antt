@@ -30,9 +30,8 @@ use Rattle.line.specs.Heard.{Begins}
 use Rattle.line.specs.Laws.{header_bits, InStep, differing, TwoBitsDiscarded}
 use Rattle.line.proofs.Bits.{value}
 use Rattle.line.proofs.Carried.{Carried}
-use Rattle.line.proofs.Cells.{long_run}
+use Rattle.line.proofs.Cells.{long_run, synced}
 use Rattle.line.proofs.CodeLaws.{CodeLaws}
-use Rattle.line.proofs.SentHeaders.{synced}
 use Rattle.line.proofs.Offers.{Frame, Whole, whole_of}
 use Rattle.line.proofs.Runs.{length-bits}
 use Rattle.line.proofs.Sends.{stream_carried, header_long_lem, header_clean}

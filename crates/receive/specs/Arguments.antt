@@ -5,14 +5,15 @@
 --   taken g word          the same, by the word that names the argument
 --   read_from g at words  what is given after all words, of which the first is number `at`, or the number of the word at fault, and why
 --   parsed words          what the words ask for
-use Rattle.std.specs.Prelude.{ℕ, ◌+◌, true, false, cond, List, [], ◌∷◌, Ok, Err, Result}
+--   why_text why          what is printed of a refusal, as octets of text
+use Rattle.std.specs.Prelude.{ℕ, ◌+◌, true, false, cond, List, [], ◌∷◌, codes, Ok, Err, Result}
 use Rattle.command_line.specs.declared.fault.Fault.{Fault}
 use Rattle.receive.specs.Name.{named}
 use Rattle.receive.specs.declared.name.Name.{Name}
 use Rattle.receive.specs.declared.name.Name.TheVariants.{Payloads, Events}
 use Rattle.receive.specs.declared.arguments.Arguments.{Arguments}
 use Rattle.receive.specs.declared.arguments.Why.{Why}
-use Rattle.receive.specs.declared.arguments.Why.TheVariants.{Repeated}
+use Rattle.receive.specs.declared.arguments.Why.TheVariants.{Unknown, Repeated}
 
 abbrev pub nothing : Arguments
 nothing = record { payloads = false; events = false }
@@ -30,3 +31,7 @@ read_from g at (word ∷ words) = elim (taken g word) [ Ok g' ↦ read_from g' (
 
 abbrev pub parsed : List (List ℕ) → Result Arguments (Fault Why)
 parsed words = read_from nothing 0 words
+
+abbrev pub why_text : Why → List ℕ
+why_text Unknown = codes "no such argument"
+why_text Repeated = codes "an argument is given twice"

@@ -1,6 +1,6 @@
 // The arguments: what they ask for, or why they are refused.
-ghost use Rattle.std.specs.Prelude.{◌≡◌, ◌+◌, ◌^◌, ◌<◌, map, length, string_bytes};
-ghost use Rattle.receive.specs.Arguments.{gave, taken, read_from, parsed};
+ghost use Rattle.std.specs.Prelude.{◌≡◌, ◌+◌, ◌^◌, ◌<◌, map, length, string_bytes, Some};
+ghost use Rattle.receive.specs.Arguments.{gave, taken, read_from, parsed, why_text};
 
 use crate::name::Name;
 use command_line::fault::Fault;
@@ -63,6 +63,8 @@ impl Arguments {
 }
 
 impl fmt::Display for Why {
+    ghost output = { λ why. Some (why_text why) };
+
     fn fmt<W: fmt::Write>(&self, f: &mut fmt::Formatter<W>) -> fmt::Result {
         f.write_str(match *self {
             Why::Unknown => "no such argument",

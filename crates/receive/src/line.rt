@@ -1,6 +1,8 @@
 // The line as it comes in: the receiving end, and how much came so far.
 ghost use Rattle.std.specs.Prelude.{◌≡◌, length};
 ghost use Rattle.receiver.specs.Feed.{made, events_of, FeedAnswer, Untouched};
+ghost use Rattle.receiver.specs.Handing.{Unasked};
+ghost use Rattle.receiver.specs.Run.{bits_of};
 ghost use Rattle.receive.specs.Line.{none, counted, counted_feed, summary_of};
 
 use crate::summary::Summary;
@@ -47,6 +49,7 @@ impl Line {
     ) -> Result<u32, Refusal>
         ensures answer { FeedAnswer octets.now self.old.receiver (S.Sink.state sink.old) (events_of events.old) result self.new.receiver (S.Sink.state sink.new) (events_of events.new) }
         ensures untouched { Untouched result sink.old sink.new events.old events.new }
+        ensures unasked { Unasked self.old.receiver.tracker (bits_of octets.now) sink.old sink.new }
         ensures tally { self.new.tally ≡ counted_feed (length octets.now) result self.old.tally }
     {
         let answer = self.receiver.feed(octets, sink, events);

@@ -1,6 +1,8 @@
 // A sending and a receiving end, of which the theorem of the line holds: that is part of the type, and each call keeps it.
 ghost use Rattle.std.specs.Prelude.{◌≡◌};
 ghost use Rattle.receiver.specs.Feed.{was_reset, events_of, FeedAnswer, Untouched};
+ghost use Rattle.receiver.specs.Handing.{Unasked};
+ghost use Rattle.receiver.specs.Run.{bits_of};
 ghost use Rattle.receiver_words.specs.Readings.{readings_of};
 ghost use Rattle.sender.specs.Sender.{StartAnswer, SendAnswer, SourceAnswer, F3Answer};
 ghost use Rattle.trial.specs.Ends.{Pair, made_pair, Stand};
@@ -17,7 +19,7 @@ use ring::ring::Ring;
 use sender::sender::Sender;
 use std::marker::Model;
 
-// Both ends. Whatever calls led to them, what the theorem of the line says holds of these calls.
+// Both ends. Calls on each lead from its making to where it stands, and what the theorem of the line says holds of these calls.
 #[derive(Drop)]
 pub struct Ends {
     sender: Sender,
@@ -89,6 +91,7 @@ impl Ends {
     ) -> Result<u32, Refusal>
         ensures answer { FeedAnswer octets.now self.old.receiver (K.Sink.state sink.old) (events_of events.old) result self.new.receiver (K.Sink.state sink.new) (events_of events.new) }
         ensures untouched { Untouched result sink.old sink.new events.old events.new }
+        ensures unasked { Unasked self.old.receiver.tracker (bits_of octets.now) sink.old sink.new }
         ensures sender { self.new.sender ≡ self.old.sender }
     {
         line_theorem_holds();

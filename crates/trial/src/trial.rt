@@ -16,7 +16,7 @@ use receiver::event::EventRecord;
 use receiver_words::readings::Readings;
 use ring::ring::Ring;
 
-// A feed of 4,096 octets ends at most 78 cells.
+// As many cells as the largest feed can end, so that no feed finds the ring full.
 const CELL_PLACES: usize = 78;
 
 // The header of all user cells: VPI 0 and VCI 100.
@@ -73,14 +73,15 @@ impl Trial {
         Ok(kind)
     }
 
-    // Octets come at the receiving end, where a user cell was sent just before or none: what went up. Refuses no octets, and more than 4,096.
+    // Octets come at the receiving end, where a user cell was sent just before or none: what went up. Refuses no octets, and more than 4,096,
+    // and then nothing changes.
     pub fn feed(
         &mut self,
         octets: &[u8],
         sent: Option<UserCell>,
         events: &mut Ring<'_, EventRecord>,
     ) -> Result<Tally, Refusal>
-        ensures { MatchResult result (λ counts. Came octets.now (option_map cell_of sent) self.old events.old counts self.new events.new) (λ e. FeedWhy octets.now e) }
+        ensures { MatchResult result (λ counts. Came octets.now (option_map cell_of sent) self.old events.old counts self.new events.new) (λ e. FeedWhy octets.now e × (self.new ≡ self.old) × (events.new ≡ events.old)) }
     {
         let mut places = [UserCell::blank(); CELL_PLACES];
         let mut cells = Ring::new(&mut places);

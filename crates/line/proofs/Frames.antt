@@ -8,7 +8,7 @@ use Rattle.cell.specs.declared.header.Kind.TheVariants.{User}
 use Rattle.ports.specs.Cell.{Cell, of_connection}
 use Rattle.scrambler.specs.Generator.{next_phase}
 use Rattle.sender.specs.Stream.{Send, line_of, lost, sent_users}
-use Rattle.receiver.specs.Run.{bits_of, user_cell}
+use Rattle.receiver.specs.Run.{bits_of}
 use Rattle.line.specs.Laws.{header_bits, payload_bits}
 use Rattle.line.proofs.Carried.{Carried, CarriedOn, sent_user}
 use Rattle.line.proofs.CodeLaws.{CodeLaws}

@@ -16,7 +16,7 @@ use Rattle.tracker.specs.declared.state.Mode.{Mode}
 use Rattle.tracker.specs.declared.state.Mode.TheVariants.{Correction, Detection}
 use Rattle.tracker.specs.declared.state.Delineation.{Delineation}
 use Rattle.tracker.specs.declared.state.Delineation.TheVariants.{Presync, Sync}
-use Rattle.tracker.specs.declared.state.Descrambler.TheVariants.{Acquisition, Verification, Steady}
+use Rattle.tracker.specs.declared.state.Descrambler.TheVariants.{Acquisition, Verification}
 use Rattle.tracker.specs.declared.state.Lock.{Lock}
 use Rattle.tracker.specs.declared.state.Place.{Place}
 use Rattle.tracker.specs.declared.state.Place.TheVariants.{Hunt, Payload, Header}

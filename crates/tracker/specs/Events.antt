@@ -1,16 +1,13 @@
 -- The events of a header, at most one in each layer, by the state before it and what becomes of that.
 --
---   header_cause m v              layer 1 in Steady: by the mode before the header and the verdict on it
+--   cause_of v                    layer 1 in Steady, by the verdict in its mode: one wrong bit is mended
+--   header_cause m v              the same by the mode before the header and the verdict on it
 --   header_event d m w            the same in any state: outside Steady there is none
 --   boundary_event b b'           layer 2: the boundary b becomes b'; None is HUNT
 --   descrambler_event d d'        layer 3: the descrambler d becomes d'
 --   descrambler_event_to d d' b'  layer 3, whether or not the hunt begins
 --   events_on m l w               the events of the header w
 --   decided m l w                 the state after the header w and the events on it
---   cause_of v                    layer 1 in Steady, by a verdict that is already that of its mode (in_mode)
---   lost_cause d v                layer 1 on a header with the verdict v that loses the boundary: outside Steady there is none
---   lost_mode d m v               the mode m after it, which stays outside Steady
---   hunt_from d c m v             HUNT for the cause c, after a header with the verdict v, and the events on it
 --   hunt_ends                     the events of a header that ends a hunt
 use Rattle.std.specs.Prelude.{ℕ, Some, None, Option}
 use Rattle.cell.specs.declared.verdict.Verdict.{Verdict}
@@ -24,21 +21,21 @@ use Rattle.tracker.specs.declared.events.DescramblerCause.{DescramblerCause}
 use Rattle.tracker.specs.declared.events.DescramblerCause.TheVariants as descrambler
 use Rattle.tracker.specs.declared.events.HeaderEvents.{HeaderEvents}
 use Rattle.tracker.specs.declared.state.Mode.{Mode}
-use Rattle.tracker.specs.declared.state.Mode.TheVariants.{Correction, Detection}
 use Rattle.tracker.specs.declared.state.Delineation.{Delineation}
 use Rattle.tracker.specs.declared.state.Delineation.TheVariants.{Presync, Sync}
 use Rattle.tracker.specs.declared.state.Descrambler.{Descrambler}
 use Rattle.tracker.specs.declared.state.Descrambler.TheVariants.{Acquisition, Verification, Steady}
 use Rattle.tracker.specs.declared.state.Lock.{Lock}
 use Rattle.tracker.specs.declared.state.Headed.{Headed}
-use Rattle.tracker.specs.declared.state.Place.TheVariants.{Hunt}
-use Rattle.tracker.specs.Rules.{sampled, descrambler_after, delineation_after, right, verdict_at, mode_on, mode_after, headed}
+use Rattle.tracker.specs.Rules.{sampled, descrambler_after, delineation_after, right, verdict_at, in_mode, headed}
+
+abbrev pub cause_of : Verdict → Option HeaderCause
+cause_of Clean = None
+cause_of (OneWrongBit i) = Some Mended
+cause_of PastMending = Some Discarded
 
 abbrev pub header_cause : Mode → Verdict → Option HeaderCause
-header_cause m Clean = None
-header_cause Correction (OneWrongBit i) = Some Mended
-header_cause Detection (OneWrongBit i) = Some Discarded
-header_cause m PastMending = Some Discarded
+header_cause m v = cause_of (in_mode m v)
 
 abbrev pub header_event : Descrambler → Mode → ℕ → Option HeaderCause
 header_event (Acquisition c) m w = None
@@ -79,26 +76,6 @@ events_on m l w =
 
 abbrev pub decided : Mode → Lock → ℕ → Headed
 decided m l w = record { control = headed m l w; events = events_on m l w }
-
--- the same by the verdict in every state, for a header that loses the boundary
-abbrev pub cause_of : Verdict → Option HeaderCause
-cause_of v = header_cause Correction v
-
-abbrev pub lost_cause : Descrambler → Verdict → Option HeaderCause
-lost_cause (Acquisition c) v = None
-lost_cause (Verification c p) v = None
-lost_cause (Steady c p) v = cause_of v
-
-abbrev pub lost_mode : Descrambler → Mode → Verdict → Mode
-lost_mode (Acquisition c) m v = m
-lost_mode (Verification c p) m v = m
-lost_mode (Steady c p) m v = mode_on v
-
-abbrev pub hunt_from : Descrambler → BoundaryCause → Mode → Verdict → Headed
-hunt_from d c m v = record {
-  control = record { mode = lost_mode d m v; place = Hunt };
-  events = record { header = lost_cause d v; boundary = Some c; descrambler = descrambler_event d (Acquisition 0) };
-}
 
 abbrev pub hunt_ends : HeaderEvents
 hunt_ends = record { header = None; boundary = Some boundary.Presync; descrambler = None }

@@ -4,3 +4,4 @@ pub mod Events
 pub mod Tracker
 pub mod Reading
 pub mod Display
+pub mod Deciding

@@ -11,21 +11,17 @@
 --   verify a m c p           Verification at the phase p of this cell; m: both samples are as predicted
 --   hold f c p               Steady; f: the freed syndrome is 0x80, 0x40 or 0xC0
 --   descrambler_after d u w  the descrambler d after the header, whichever state it is in
---   at_next_cell d           the descrambler d at the phase of the next cell, whose header has come
---   phase_of d               the phase of the cell that is coming in, once one is found
+--   phase_of d               the phase of the cell whose header came last, once one is found
 --   sampled u w              the samples of the last sixteen headers, this one the newest
---   at_header l w            the lock l with this header's samples, at the phase of its cell
 --   verdict_at p w           the verdict on the header freed of the samples of the phase p
 --   is_clean v               the verdict v is that nothing is wrong
---   in_mode m v              the verdict v in the mode m: in detection mode one wrong bit is past mending
---   verdict_in d m w         the verdict on the header in every state d, at the phase of its cell: in Steady that on the freed syndrome, in the mode m;
---                            else clean where it agrees and past mending where not
 --   right d w                the header is not wrong: it agrees, and in Steady it is clean
 --   confirmed b              the boundary b after a right header
 --   delineation_after b r    the boundary b after a header that is right or not (r); None is HUNT
 --   mode_on v                the mode after a header in Steady with the verdict v
 --   begun d m                the mode m after a header in Verification, which leads to the descrambler d
 --   mode_after d e m w       the mode m after the header, where the descrambler d becomes e
+--   in_mode m v              the verdict v in the mode m: in detection mode one wrong bit is past mending
 --   taken_by m v p w         the header of the cell in Steady, by the mode m and the verdict v, descrambled at the phase p
 --   header_taken d m w       the same in any state, where it is valid or mended; outside Steady there is none
 --   is_sync b, is_steady d   the boundary b is in SYNC; the descrambler d is in Steady
@@ -107,11 +103,6 @@ descrambler_after (Acquisition c) u w = acquire (agrees w) c u
 descrambler_after (Verification c p) u w = verify (agrees w) (samples_in w == predicted (next_phase p)) c (next_phase p)
 descrambler_after (Steady c p) u w = hold (sample_fault (freed (next_phase p) w)) c (next_phase p)
 
-abbrev pub at_next_cell : Descrambler → Descrambler
-at_next_cell (Acquisition c) = Acquisition c
-at_next_cell (Verification c p) = Verification c (next_phase p)
-at_next_cell (Steady c p) = Steady c (next_phase p)
-
 abbrev pub phase_of : Descrambler → Option ℕ
 phase_of (Acquisition c) = None
 phase_of (Verification c p) = Some p
@@ -120,9 +111,6 @@ phase_of (Steady c p) = Some p
 -- two bits a header, in 32 bits
 unfoldable pub sampled : ℕ → ℕ → ℕ
 sampled u w = u % 2 ^ 30 * 2 ^ 2 + samples_in w
-
-abbrev pub at_header : Lock → ℕ → Lock
-at_header l w = record { delineation = l.delineation; descrambler = at_next_cell l.descrambler; samples = sampled l.samples w }
 
 -- ---- the boundary
 
@@ -133,17 +121,6 @@ abbrev pub is_clean : Verdict → Bool
 is_clean Clean = true
 is_clean (OneWrongBit i) = false
 is_clean PastMending = false
-
-abbrev pub in_mode : Mode → Verdict → Verdict
-in_mode m Clean = Clean
-in_mode Correction (OneWrongBit i) = OneWrongBit i
-in_mode Detection (OneWrongBit i) = PastMending
-in_mode m PastMending = PastMending
-
-abbrev pub verdict_in : Descrambler → Mode → ℕ → Verdict
-verdict_in (Acquisition c) m w = cond (agrees w) Clean PastMending
-verdict_in (Verification c p) m w = cond (agrees w) Clean PastMending
-verdict_in (Steady c p) m w = in_mode m (verdict_at p w)
 
 abbrev pub right : Descrambler → ℕ → Bool
 right (Acquisition c) w = agrees w
@@ -179,12 +156,15 @@ mode_after (Acquisition c) e m w = m
 mode_after (Verification c p) e m w = begun e m
 mode_after (Steady c p) e m w = mode_on (verdict_at (next_phase p) w)
 
--- a clean header is valid; in correction mode one wrong bit is mended
+abbrev pub in_mode : Mode → Verdict → Verdict
+in_mode m Clean = Clean
+in_mode Correction (OneWrongBit i) = OneWrongBit i
+in_mode Detection (OneWrongBit i) = PastMending
+in_mode m PastMending = PastMending
+
+-- a clean header is valid, and one wrong bit is mended
 abbrev pub taken_by : Mode → Verdict → ℕ → ℕ → Option headers.Header
-taken_by m Clean p w = Some (header_in p w)
-taken_by Correction (OneWrongBit i) p w = Some (mended_in p w i)
-taken_by Detection (OneWrongBit i) p w = None
-taken_by m PastMending p w = None
+taken_by m v p w = elim (in_mode m v) [ Clean ↦ Some (header_in p w) | OneWrongBit i ↦ Some (mended_in p w i) | PastMending ↦ None ]
 
 abbrev pub header_taken : Descrambler → Mode → ℕ → Option headers.Header
 header_taken (Acquisition c) m w = None

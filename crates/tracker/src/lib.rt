@@ -3,8 +3,9 @@
 
 mod display;
 pub mod events;
+mod lock;
 pub mod reading;
-pub mod rules;
+mod rules;
 pub mod state;
 pub mod tracker;
 pub mod window;

@@ -21,7 +21,7 @@ pub enum Delineation {
     Sync(u8),
 }
 
-// How sure the descrambler's phase is: the confidence and, once found, the phase of the cell that is coming in.
+// How sure the descrambler's phase is: the confidence and, once found, the phase of the cell whose header came last.
 #[derive(Clone, Copy, Debug, PartialEq, Eq, Hash)]
 pub enum Descrambler {
     Acquisition(u8),
@@ -30,7 +30,7 @@ pub enum Descrambler {
 }
 
 impl Descrambler {
-    // The phase of the cell that is coming in, once one is found.
+    // The phase of the cell whose header came last, once one is found.
     pub(crate) fn phase(self) -> Option<u32>
         ensures { result ≡ phase_of self }
     {

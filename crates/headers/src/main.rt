@@ -1,18 +1,10 @@
 // Reads captured headers, one to a line, and says of each what it is and what is wrong with it.
 #![tactic(auto)]
 
-use remark::Remark;
+use captured_headers::remark::Remark;
+use captured_headers::tally::Tally;
 use std::io;
 use std::io::{BufRead, BufReader};
-use tally::Tally;
-
-mod capture;
-mod character;
-mod finding;
-mod line_end;
-mod remark;
-mod report;
-mod tally;
 
 fn main(rt: HostRuntime) -> anyhow::Result<()> {
     run(&rt)

@@ -4,13 +4,14 @@
 
 ghost use Rattle.std.specs.Prelude.{◌≡◌, ℕ, ◌<◌, ◌≤◌, [], length, OnOk};
 ghost use Rattle.ring.specs.Ring.{held};
-ghost use Rattle.receive.specs.Line.{Fed};
-ghost use Rattle.receive.specs.Output.{Passed};
+ghost use Rattle.incoming_line.specs.Line.{Fed};
+ghost use Rattle.incoming_line.specs.Output.{Passed};
 
-use arguments::Arguments;
 use command_line::input::fill;
 use command_line::words::words;
-use line::Line;
+use incoming_line::arguments::Arguments;
+use incoming_line::line::Line;
+use incoming_line::output;
 use ports::user_cell::UserCell;
 use receiver::event::EventRecord;
 use receiver::feeding::MOST_OCTETS;
@@ -18,12 +19,6 @@ use ring::ring::Ring;
 use std::io;
 use std::io::{BufWriter, Write};
 use std::process::ExitCode;
-
-mod arguments;
-mod line;
-mod name;
-mod output;
-mod summary;
 
 // A feed of 4,096 octets ends at most 78 cells and brings at most 546 events, and the rings are emptied after each, so nothing is lost:
 // the summary would tell cells that found no place, and lost events.

@@ -3,26 +3,20 @@
 #![tactic(auto)]
 
 use anyhow::anyhow;
-use arguments::Arguments;
 use blocks::block_source::BlockSource;
 use cell::header::Header;
 use cell::sizes::PAYLOAD_OCTETS;
 use command_line::fault::Fault;
 use command_line::input::fill;
 use command_line::words::{word, words};
-use f3_payload::PayloadError;
-use line::Line;
+use outgoing_line::arguments::Arguments;
+use outgoing_line::f3_payload;
+use outgoing_line::f3_payload::PayloadError;
+use outgoing_line::line::Line;
 use ports::source::CountedSource;
 use std::io::{BufWriter, Write};
 use std::process::ExitCode;
 use std::{fs, io};
-
-mod arguments;
-mod f3_payload;
-mod line;
-mod name;
-mod summary;
-mod tally;
 
 // So many octets are read at a time. They fill whole cells, so that only the last cell of the block is filled with zeros.
 const PART_OCTETS: usize = 65_520;

@@ -1,22 +1,15 @@
 // Runs a sending and a receiving end over a line with damage, as the commands on standard input say, and prints what went up.
 #![tactic(auto)]
 
-use command::Command;
-use outcome::Outcome;
+use damaged_line::command::Command;
+use damaged_line::outcome::Outcome;
+use damaged_line::tally::Tally;
+use damaged_line::trial::Trial;
 use receiver::event::EventRecord;
 use ring::ring::Ring;
 use std::io;
 use std::io::{BufRead, BufReader};
 use std::num::Saturating;
-use tally::Tally;
-use trial::Trial;
-
-mod command;
-mod damage;
-mod ends;
-mod outcome;
-mod tally;
-mod trial;
 
 // Events of one command behind these are lost, and counted.
 const EVENT_PLACES: usize = 1024;

@@ -1,0 +1,15 @@
+use Rattle.std.proofs.Common.{refl, rules}
+use Rattle.damaged_line.proofs.trial.Trial.feed.Goals as goal
+
+pub returns : goal.returns
+returns c = record {
+  blank = c.new-cells.result;
+  up = c.feed.new.sink;
+  empty = c.new-cells.ensures.empty;
+  places = c.new-cells.ensures.places;
+  taken = c.in_ok-feed.field-0;
+  feeds = c.in_ok-feed.ensures.answer;
+  counted = search rules;
+  sender = c.in_ok-feed.ensures.sender;
+  number = refl;
+}

@@ -1,0 +1,13 @@
+-- The payload of F3 cells, as an input gives it.
+--
+--   PayloadAnswer left r  what the reading of a payload answers, where the octets that the input has left are known: these, if they are 48. An
+--                         input that cannot be read answers with an error of its own
+use Rattle.std.specs.Prelude.{◌≡◌, ℕ, List, length, ⊤, None, Some, Ok, Err, Option, Result, ◌≢◌}
+use Rattle.outgoing_line.specs.declared.f3_payload.PayloadError.{PayloadError}
+use Rattle.outgoing_line.specs.declared.f3_payload.PayloadError.TheVariants.{Unread, WrongLength}
+
+abbrev pub PayloadAnswer : Option (List ℕ) → Result (List ℕ) PayloadError → Type 0
+PayloadAnswer None r = ⊤
+PayloadAnswer (Some left) (Ok payload) = (length left ≡ 48) × (payload ≡ left)
+PayloadAnswer (Some left) (Err WrongLength) = length left ≢ 48
+PayloadAnswer (Some left) (Err (Unread error)) = ⊤

@@ -1,7 +1,0 @@
--- What is left of the words gives the answer, from what is given so far.
-use Rattle.std.proofs.Common.{◌≡◌, drop, map, string_bytes}
-use Rattle.receive.specs.Arguments.{nothing, read_from}
-use Rattle.receive.proofs.arguments.Arguments.parse.Given as goal
-
-abbrev pub invariant-loop-at : goal.invariant-loop-at
-invariant-loop-at l = read_from l.given l.at-counter (map string_bytes (drop l.at-counter l.words)) ≡ read_from nothing 0 (map string_bytes l.words)

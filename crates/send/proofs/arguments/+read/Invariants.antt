@@ -1,6 +1,0 @@
--- Each turn reads two words.
-use Rattle.std.proofs.Common.{length}
-use Rattle.send.proofs.arguments.+read.Given as goal
-
-abbrev pub decreases-read : goal.decreases-read
-decreases-read l = length l.words.now

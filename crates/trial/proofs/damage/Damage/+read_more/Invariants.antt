@@ -1,6 +1,0 @@
--- Each turn reads a word.
-use Rattle.std.proofs.Common.{length}
-use Rattle.trial.proofs.damage.Damage.+read_more.Given as goal
-
-abbrev pub decreases-read_more : goal.decreases-read_more
-decreases-read_more l = length l.text.now

@@ -1,5 +1,0 @@
-use Rattle.trial.proofs.Standing.{reset_stands}
-use Rattle.trial.proofs.ends.Ends.reset.Goals as goal
-
-pub invariant_of-self : goal.invariant_of-self
-invariant_of-self c = reset_stands c.line_theorem_holds.ensures c.self.invariant c.reset.ensures

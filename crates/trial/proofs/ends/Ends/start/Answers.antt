@@ -1,5 +1,0 @@
-use Rattle.trial.proofs.Standing.{start_stands}
-use Rattle.trial.proofs.ends.Ends.start.Goals as goal
-
-pub invariant_of-self : goal.invariant_of-self
-invariant_of-self c = start_stands c.line_theorem_holds.ensures _ _ c.self.invariant c.start.ensures

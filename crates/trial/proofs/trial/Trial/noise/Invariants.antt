@@ -1,6 +1,0 @@
--- So many octets came as the loop has gone round.
-use Rattle.trial.specs.Outcome.{Noised}
-use Rattle.trial.proofs.trial.Trial.noise.Given as goal
-
-abbrev pub invariant-loop : goal.invariant-loop
-invariant-loop l = Noised l.counter l.initial.self l.initial.events l.counts l.self l.events

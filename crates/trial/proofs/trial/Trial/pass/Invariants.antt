@@ -1,6 +1,0 @@
--- So many cells were sent as the loop has gone round.
-use Rattle.trial.specs.Outcome.{Passed}
-use Rattle.trial.proofs.trial.Trial.pass.Given as goal
-
-abbrev pub invariant-loop : goal.invariant-loop
-invariant-loop l = Passed l.counter l.initial.self l.initial.events l.counts l.self l.events

@@ -1,4 +1,4 @@
-// A block of octets as a sink. Its calls stand in a module of their own, since their contracts name it.
+//! A block of octets as a sink. Its calls stand in a module of their own, since their contracts name it.
 ghost use Rattle.std.specs.Prelude.{◌*◌, ◌≤◌, length};
 
 use cell::header::Header;
@@ -6,10 +6,10 @@ use cell::header::Header;
 mod calls;
 mod places;
 
-// A block sink fills no more payload places than this.
+/// A block sink fills no more payload places than this.
 pub const MOST_PAYLOADS: usize = 1365;
 
-// A lent block that takes the payloads of one header, in order.
+/// A lent block that takes the payloads of one header, in order.
 #[derive(Drop)]
 pub struct BlockSink<'a> {
     block: &'a mut [u8],

@@ -1,4 +1,4 @@
-// A block of octets as a source. Its calls stand in a module of their own, since their contracts name it.
+//! A block of octets as a source. Its calls stand in a module of their own, since their contracts name it.
 ghost use Rattle.std.specs.Prelude.{◌≡◌, ◌^◌, ◌<◌, ◌≤◌, true, length};
 ghost use Rattle.cell.specs.Header.{reserved};
 
@@ -6,10 +6,10 @@ use cell::header::Header;
 
 mod calls;
 
-// A block source uses no more octets of its block than this.
+/// A block source uses no more octets of its block than this.
 pub const MOST_OCTETS: usize = 65_536;
 
-// A lent block, cut into payloads under one header.
+/// A lent block, cut into payloads under one header.
 #[derive(Drop)]
 pub struct BlockSource<'a> {
     // the octets that were not taken yet

@@ -1,4 +1,4 @@
-// Blocks of octets as sources and sinks of payloads under one header.
+//! Blocks of octets as sources and sinks of payloads under one header.
 #![tactic(auto)]
 
 pub mod block_sink;

@@ -1,4 +1,4 @@
-// A line of a capture: the header that it spells, or why it spells none.
+//! A line of a capture: the header that it spells, or why it spells none.
 ghost use Rattle.std.specs.Prelude.{◌≡◌, Some, ◌-◌, ◌^◌, ◌<◌};
 ghost use Rattle.captured_headers.specs.Capture.{Spelt, character_of, Reads, NoHeader};
 ghost use Rattle.captured_headers.specs.Fault.{text_of};
@@ -10,16 +10,16 @@ use cell::sizes::LINE_HEADER_OCTETS;
 use std::error::Error;
 use std::fmt;
 
-// Why a line is no header. Columns count octets, from 1.
+/// Why a line is no header. Columns count octets, from 1.
 #[derive(Clone, Copy, Debug, PartialEq, Eq)]
 pub enum Fault {
-    // the character in this column is no hexadecimal digit
+    /// the character in this column is no hexadecimal digit
     NotHex(usize),
-    // the octet in this column has one digit
+    /// the octet in this column has one digit
     HalfOctet(usize),
-    // this many octets, fewer than a header has
+    /// this many octets, fewer than a header has
     TooFew(usize),
-    // this many octets, more than a header has
+    /// this many octets, more than a header has
     TooMany(usize),
 }
 
@@ -38,7 +38,7 @@ impl fmt::Display for Fault {
 
 impl Error for Fault {}
 
-// The header that a line without its line end spells, as received; none where the line is nothing but blanks.
+/// The header that a line without its line end spells, as received; none where the line is nothing but blanks.
 pub fn read(line: &[u8]) -> Result<Option<LineHeader>, Fault>
     ensures reads { Reads line.now result }
     ensures only { (s : Spelt) → Reads line.now s → s ≡ result }

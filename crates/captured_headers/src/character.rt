@@ -1,14 +1,14 @@
-// What a character of a captured line is.
+//! What a character of a captured line is.
 ghost use Rattle.std.specs.Prelude.{◌≡◌};
 ghost use Rattle.captured_headers.specs.Capture.{character_of};
 
 #[derive(Clone, Copy, Debug, PartialEq, Eq)]
 pub enum Character {
-    // stands between octets
+    /// stands between octets
     Blank,
-    // a hexadecimal digit of this value
+    /// a hexadecimal digit of this value
     Digit(u8),
-    // has no place in a line
+    /// has no place in a line
     Other,
 }
 

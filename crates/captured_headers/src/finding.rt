@@ -1,4 +1,4 @@
-// What is found out of a header as received: its verdict, and what it was where one bit came wrong.
+//! What is found out of a header as received: its verdict, and what it was where one bit came wrong.
 ghost use Rattle.std.specs.Prelude.{◌≡◌};
 ghost use Rattle.captured_headers.specs.Finding.{finding_of, Finds};
 
@@ -9,11 +9,11 @@ use std::fmt;
 
 #[derive(Clone, Copy, Debug, PartialEq, Eq)]
 pub enum Finding {
-    // the header came with its own check octet
+    /// the header came with its own check octet
     Clean,
-    // the syndrome is that of this one wrong bit: the header with it turned, and its kind
+    /// the syndrome is that of this one wrong bit: the header with it turned, and its kind
     OneWrongBit(u8, LineHeader, Kind),
-    // more than one bit came wrong
+    /// more than one bit came wrong
     PastMending,
 }
 

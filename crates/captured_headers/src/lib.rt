@@ -1,4 +1,4 @@
-// Captured headers: reading one from a line of text, what is found out of it, and counts over a whole capture.
+//! Captured headers: reading one from a line of text, what is found out of it, and counts over a whole capture.
 #![tactic(auto)]
 
 pub mod capture;

@@ -1,4 +1,4 @@
-// What is said of a line of a capture.
+//! What is said of a line of a capture.
 ghost use Rattle.captured_headers.specs.Remark.{RemarkOn};
 
 use crate::capture::Fault;
@@ -7,10 +7,10 @@ use crate::{capture, line_end};
 use std::error::Error;
 use std::fmt;
 
-// A report on a header, none of an empty line, and else a complaint.
+/// A report on a header, none of an empty line, and else a complaint.
 pub type Remark = Result<Option<Report>, Complaint>;
 
-// Why a line is no header.
+/// Why a line is no header.
 #[derive(Clone, Copy, Debug, PartialEq, Eq)]
 pub struct Complaint {
     pub line_number: u64,
@@ -26,7 +26,7 @@ impl fmt::Display for Complaint {
 
 impl Error for Complaint {}
 
-// What is said of a line, which may have its line end.
+/// What is said of a line, which may have its line end.
 pub fn remark_on(line_number: u64, line: &[u8]) -> Remark
     ensures { RemarkOn line.now line_number result }
 {

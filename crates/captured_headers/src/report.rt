@@ -1,4 +1,4 @@
-// What is said of a header.
+//! What is said of a header.
 ghost use Rattle.std.specs.Prelude.{◌≡◌};
 ghost use Rattle.cell.specs.LineHeader.{bits40};
 ghost use Rattle.captured_headers.specs.Finding.{CleanSent, OneMended, TwoFound};
@@ -9,7 +9,7 @@ use cell::header::{Fields, Kind};
 use cell::line_header::LineHeader;
 use std::fmt;
 
-// A header as received, and all that follows from it.
+/// A header as received, and all that follows from it.
 #[derive(Clone, Copy, Debug, PartialEq, Eq)]
 pub struct Report {
     pub line_number: u64,
@@ -22,7 +22,7 @@ pub struct Report {
 }
 
 impl Report {
-    // All that follows from a header as received. One wrong bit is mended, and two are found out.
+    /// All that follows from a header as received. One wrong bit is mended, and two are found out.
     pub fn new(line_number: u64, received: LineHeader) -> Report
         ensures value { result ≡ report_of line_number received }
         ensures clean { CleanSent (bits40 received) result.finding }

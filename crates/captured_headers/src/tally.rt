@@ -1,4 +1,4 @@
-// Counts over a whole capture.
+//! Counts over a whole capture.
 ghost use Rattle.std.specs.Prelude.{◌≡◌};
 ghost use Rattle.captured_headers.specs.Remark.{RemarkOn};
 ghost use Rattle.captured_headers.specs.Tally.{none, counted, headers_in};
@@ -8,7 +8,7 @@ use crate::remark::{Remark, remark_on};
 use std::fmt;
 use std::num::Saturating;
 
-// A counter stops at its top.
+/// A counter stops at its top.
 #[derive(Clone, Copy, Default)]
 pub struct Tally {
     pub clean: Saturating<u64>,
@@ -18,14 +18,14 @@ pub struct Tally {
 }
 
 impl Tally {
-    // Nothing is counted yet.
+    /// Nothing is counted yet.
     pub fn new() -> Tally
         ensures { result ≡ none }
     {
         Tally::default()
     }
 
-    // What is said of a line, which may have its line end; and counts it.
+    /// What is said of a line, which may have its line end; and counts it.
     pub fn take(&mut self, line_number: u64, line: &[u8]) -> Remark
         ensures remark { RemarkOn line.now line_number result }
         ensures after { self.new ≡ counted result self.old }
@@ -49,7 +49,7 @@ impl Tally {
         }
     }
 
-    // Headers of any finding.
+    /// Headers of any finding.
     pub fn headers(&self) -> u64
         ensures { result ≡ headers_in self.now }
     {

@@ -24,7 +24,7 @@ header_and_octet w h =
     (lin_mod 8 (λ w. w) lin_id))
     (lin_remainder 32) 40 tt w h
 
-xor_swap_last : (a b c : ℕ) → bit_xor (bit_xor a b) c ≡ bit_xor (bit_xor a c) b
+pub xor_swap_last : (a b c : ℕ) → bit_xor (bit_xor a b) c ≡ bit_xor (bit_xor a c) b
 xor_swap_last a b c = xor_assoc a b c ∙ ap (bit_xor a) (xor_comm b c) ∙ sym (xor_assoc a c b)
 
 syndrome_is : (w : ℕ) → w < 2 ^ 40 → syndrome (w / 2 ^ 8) (w % 2 ^ 8) ≡ bit_xor (remainder 32 w) 0x55

@@ -6,9 +6,9 @@
 --   octet_text o         the two hexadecimal digits of an octet
 --   line_text l          the five octets of a header on the line, with blanks between
 --   Codeword w           the 40 bits w are a header with its own check octet
---   OneTold x v          if x was sent as a codeword and one bit came wrong, v names that bit
---   TwoPast x v          if two bits came wrong, v is past mending
---   Restored x i y       if bit i of x alone came wrong, y is what was sent
+--   OneTold x v          where x is a codeword with one of its 40 bits the other way, v names that bit
+--   TwoPast x v          where x is a codeword with two of its bits the other way, v is past mending
+--   Restored x i y       where x is a codeword with bit i alone the other way, y is that codeword
 use Rattle.std.specs.Prelude.{◌≡◌, ℕ, ◌+◌, ◌*◌, ◌/◌, ◌%◌, ◌^◌, ◌<◌, true, List, [], ◌∷◌, ◌++◌, ◌≢◌, bit_xor, codes}
 use Rattle.std.specs.Fmt.{digit_glyph}
 use Rattle.cell.specs.CheckOctet.{syndrome}

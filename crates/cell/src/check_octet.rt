@@ -1,4 +1,4 @@
-// The check octet of a header.
+//! The check octet of a header.
 ghost use Rattle.std.specs.Prelude.{◌≡◌, ◌*◌, ◌^◌};
 ghost use Rattle.cell.specs.CheckOctet.{check_octet, LeavesCheckOctet};
 ghost use Rattle.cell.specs.Linear.{Linear};
@@ -7,8 +7,11 @@ ghost use Rattle.cell.specs.Polynomial.{remainder};
 use crate::header::Header;
 use crate::sizes::HEADER_OCTETS;
 
+// Added to the remainder, so that a run of zeros does not pass for headers.
+const COSET: u8 = 0x55;
+
 impl Header {
-    // The check octet (HEC): the remainder of x^8 times the header by x^8 + x^2 + x + 1, with 0x55 added. It is found an octet at a time.
+    /// The check octet (HEC): the remainder of x^8 times the header by x^8 + x^2 + x + 1, with 0x55 added. It is found an octet at a time.
     #[tactic(auto, using(crate::proofs::Division::octets_leave, crate::proofs::Division::leaves_check_octet, crate::proofs::Division::lin_remainder))]
     pub fn check_octet(self) -> u8
         ensures value { result ≡ check_octet self.0 }
@@ -16,7 +19,7 @@ impl Header {
         ensures linear { Linear (remainder 32) }
     {
         let [a, b, c, d]: [u8; HEADER_OCTETS] = self.into();
-        times_x8(times_x8(times_x8(times_x8(a) ^ b) ^ c) ^ d) ^ 0x55
+        times_x8(times_x8(times_x8(times_x8(a) ^ b) ^ c) ^ d) ^ COSET
     }
 }
 

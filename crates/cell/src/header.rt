@@ -1,4 +1,4 @@
-// The header of a cell: its octets, its fields, its connection and the kind of cell that it heads.
+//! The header of a cell: its octets, its fields, its connection and the kind of cell that it heads.
 ghost use Rattle.std.specs.Prelude.{◌≡◌, Some};
 ghost use Rattle.cell.specs.Header.{header_of, header_octets, fields_of, joined, connection_of, kind_of, kind_name, kind_number, reserved};
 ghost use Rattle.std.specs.Fmt.{padded};
@@ -6,7 +6,7 @@ ghost use Rattle.std.specs.Fmt.{padded};
 use crate::sizes::HEADER_OCTETS;
 use std::fmt;
 
-// The 32 header bits of a cell, as a number from the top.
+/// The 32 header bits of a cell, as a number from the top.
 #[derive(Clone, Copy, Debug, PartialEq, Eq, Hash)]
 pub struct Header(pub u32);
 
@@ -27,34 +27,34 @@ impl From<Header> for [u8; HEADER_OCTETS] {
     }
 }
 
-// The fields of a header, from the top.
+/// The fields of a header, from the top.
 #[derive(Clone, Copy, Debug, PartialEq, Eq, Hash)]
 pub struct Fields {
-    // generic flow control, 4 bits
+    /// generic flow control, 4 bits
     pub gfc: u8,
-    // virtual path identifier, 8 bits
+    /// virtual path identifier, 8 bits
     pub vpi: u8,
-    // virtual channel identifier, 16 bits
+    /// virtual channel identifier, 16 bits
     pub vci: u16,
-    // payload type, 3 bits
+    /// payload type, 3 bits
     pub pt: u8,
-    // cell loss priority, 1 bit
+    /// cell loss priority, 1 bit
     pub clp: u8,
 }
 
-// What a cell is for, by its header alone. Each kind has the number by which a caller knows it.
+/// What a cell is for, by its header alone. Each kind has the number by which a caller knows it.
 #[derive(Clone, Copy, Debug, PartialEq, Eq, Hash)]
 pub enum Kind {
-    // fills the line where nothing waits
+    /// fills the line where nothing waits
     Idle = 0,
-    // maintenance of the transmission path
+    /// maintenance of the transmission path
     F3 = 1,
-    // carries a user's payload
+    /// carries a user's payload
     User = 2,
 }
 
 impl Kind {
-    // The number by which a caller knows the kind.
+    /// The number by which a caller knows the kind.
     pub fn number(self) -> u8
         ensures { result ≡ kind_number self }
     {
@@ -77,12 +77,12 @@ impl fmt::Display for Kind {
 }
 
 impl Header {
-    // The header of idle cells.
+    /// The header of idle cells.
     pub const IDLE: Header = Header(0x0000_0001);
-    // The header of F3 cells.
+    /// The header of F3 cells.
     pub const F3: Header = Header(0x0000_0009);
 
-    // The five fields; joined from the top they are the header again.
+    /// The five fields; joined from the top they are the header again.
     #[tactic(auto, using(crate::proofs::Fields::joined_of))]
     pub fn fields(self) -> Fields
         ensures value { result ≡ fields_of self.0 }
@@ -98,7 +98,7 @@ impl Header {
         }
     }
 
-    // The number of the connection: VPI × 65,536 + VCI.
+    /// The number of the connection: VPI × 65,536 + VCI.
     pub fn connection(self) -> u32
         ensures { result ≡ connection_of self.0 }
     {
@@ -106,7 +106,7 @@ impl Header {
         u32::from(vpi) * 65_536 + u32::from(vci)
     }
 
-    // The kind of cell that this header heads.
+    /// The kind of cell that this header heads.
     pub fn kind(self) -> Kind
         ensures { result ≡ kind_of self.0 }
     {
@@ -117,7 +117,7 @@ impl Header {
         }
     }
 
-    // No user cell carries this header.
+    /// No user cell carries this header.
     pub fn is_reserved(self) -> bool
         ensures { result ≡ reserved self.0 }
     {

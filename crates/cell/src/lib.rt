@@ -1,4 +1,4 @@
-// The lowest layer: a cell's header and its fields, the check octet, what a syndrome says, sorting, and the refusals of the whole product.
+//! The lowest layer: a cell's header and its fields, the check octet, what a syndrome says, sorting, and the refusals of the whole product.
 #![tactic(auto)]
 
 pub mod check_octet;

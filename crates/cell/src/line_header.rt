@@ -1,4 +1,4 @@
-// The first five octets of a cell as a line carries them, and what to make of them.
+//! The first five octets of a cell as a line carries them, and what to make of them.
 ghost use Rattle.std.specs.Prelude.{◌≡◌, Some};
 ghost use Rattle.cell.specs.LineHeader.{bits40, of_bits, syndrome_of, turned, line_text, OneTold, TwoPast, Restored};
 ghost use Rattle.cell.specs.Verdict.{verdict_of, place};
@@ -8,7 +8,7 @@ use crate::sizes::{HEADER_OCTETS, LINE_HEADER_BITS};
 use crate::verdict::Verdict;
 use std::fmt;
 
-// A header, and what came in the place of its check octet.
+/// A header, and what came in the place of its check octet.
 #[derive(Clone, Copy, Debug, PartialEq, Eq, Hash)]
 pub struct LineHeader {
     pub header: Header,
@@ -16,7 +16,7 @@ pub struct LineHeader {
 }
 
 impl LineHeader {
-    // The header of the low 40 bits of a word, the first sent on top. No From, since the bits above them are let go.
+    /// The header of the low 40 bits of a word, the first sent on top. No From, since the bits above them are let go.
     pub fn from_bits(word: u64) -> LineHeader
         ensures { result ≡ of_bits word }
     {
@@ -26,21 +26,21 @@ impl LineHeader {
         }
     }
 
-    // The 40 bits as a word, the first sent on top; `from_bits` undoes it.
+    /// The 40 bits as a word, the first sent on top; `from_bits` undoes it.
     pub fn to_bits(self) -> u64
         ensures { result ≡ bits40 self }
     {
         u64::from(self.header.0) * 0x100 + u64::from(self.hec)
     }
 
-    // The check octet of the header against what came in its place: 0 where they are the same.
+    /// The check octet of the header against what came in its place: 0 where they are the same.
     pub fn syndrome(self) -> u8
         ensures { result ≡ syndrome_of self }
     {
         self.header.check_octet() ^ self.hec
     }
 
-    // The verdict on the 40 bits. One wrong bit is told, and two are found out.
+    /// The verdict on the 40 bits. One wrong bit is told, and two are found out.
     #[tactic(auto, using(crate::proofs::WrongBits::told, crate::proofs::WrongBits::past))]
     pub fn judge(self) -> Verdict
         ensures value { result ≡ verdict_of (syndrome_of self) }
@@ -50,7 +50,7 @@ impl LineHeader {
         Verdict::from(self.syndrome())
     }
 
-    // The 40 bits with one bit turned: 0, the first sent, to 39; any other number names none.
+    /// The 40 bits with one bit turned: 0, the first sent, to 39; any other number names none.
     pub fn mend(self, bit: u8) -> LineHeader
         ensures value { result ≡ of_bits (turned (bits40 self) bit) }
         ensures restored { Restored (bits40 self) bit (bits40 result) }

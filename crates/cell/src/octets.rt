@@ -1,11 +1,11 @@
-// The octets of a cell.
+//! The octets of a cell.
 ghost use Rattle.std.specs.Prelude.{◌≡◌, ◌++◌, drop};
 ghost use Rattle.cell.specs.Header.{header_of, header_octets};
 
 use crate::header::Header;
 use crate::sizes::{CELL_OCTETS, HEADER_OCTETS, PAYLOAD_OCTETS};
 
-// The 52 octets of a cell: four of the header, the most significant first, and 48 of the payload.
+/// The 52 octets of a cell: four of the header, the most significant first, and 48 of the payload.
 pub fn cell_octets(header: Header, payload: &[u8; PAYLOAD_OCTETS]) -> [u8; CELL_OCTETS]
     ensures { result ≡ header_octets header.0 ++ payload.now }
 {
@@ -16,7 +16,7 @@ pub fn cell_octets(header: Header, payload: &[u8; PAYLOAD_OCTETS]) -> [u8; CELL_
     octets
 }
 
-// The header and the payload that the 52 octets of a cell are: undoes `cell_octets`.
+/// The header and the payload that the 52 octets of a cell are: undoes `cell_octets`.
 #[tactic(auto, using(crate::proofs::Payloads::payload_part))]
 pub fn cell_parts(octets: &[u8; CELL_OCTETS]) -> (Header, [u8; PAYLOAD_OCTETS])
     ensures header { result.0.0 ≡ header_of octets.now }

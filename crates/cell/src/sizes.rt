@@ -1,14 +1,21 @@
-// How many octets and bits a cell and its parts have.
+//! How many octets and bits a cell and its parts have.
 
-// The header without its check octet.
+/// The header without its check octet.
 pub const HEADER_OCTETS: usize = 4;
 
 pub const PAYLOAD_OCTETS: usize = 48;
-// Header and payload, as sources, sinks and sorting have them.
+
+/// Header and payload, as sources, sinks and sorting have them.
 pub const CELL_OCTETS: usize = 52;
-// A cell on the line, with its check octet.
+
+/// A cell on the line, with its check octet.
 pub const LINE_OCTETS: usize = 53;
-// A header on the line, with its check octet.
+
+/// The same in bits.
+pub const LINE_BITS: usize = 424;
+
+/// A header on the line, with its check octet.
 pub const LINE_HEADER_OCTETS: usize = 5;
 
+/// The same in bits.
 pub const LINE_HEADER_BITS: u8 = 40;

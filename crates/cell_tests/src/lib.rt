@@ -1,4 +1,4 @@
-// Tests of the crate cell that run its code on many values. They stand apart since a crate with tests is proved twice.
+//! Tests of the crate cell that run its code on many values. They stand apart since a crate with tests is proved twice.
 #![tactic(auto)]
 
 #[cfg(test)]

@@ -1,23 +1,23 @@
-// The cases, one to a line: `cell PHASE OCTETS`, `find WORD` and `next PHASE`, each number of eight lower-case digits.
+//! The cases, one to a line: `cell PHASE OCTETS`, `find WORD` and `next PHASE`, each number of eight lower-case digits.
 ghost use Rattle.std.specs.Prelude.{◌≡◌, ◌≢◌, ℕ, List, ◌++◌, IfOk, MatchOption};
 ghost use Rattle.coding_vectors.specs.Cases.{CellCase, Reads};
 
 use hex_digits::digits;
 use std::alloc::{AllocError, Global};
 
-// What a line asks for.
+/// What a line asks for.
 #[derive(Drop)]
 pub enum Case {
-    // code these octets as a cell at this phase
+    /// code these octets as a cell at this phase
     Cell(u32, Vec<u8>),
-    // find the phase of this sample word
+    /// find the phase of this sample word
     Find(u32),
-    // move this phase on to the next cell
+    /// move this phase on to the next cell
     Next(u32),
 }
 
 impl Case {
-    // The case that a line spells, if it spells one.
+    /// The case that a line spells, if it spells one.
     pub fn read(heap: Global, line: &[u8]) -> Result<Option<Case>, AllocError>
         ensures { IfOk result (λ c. Reads line.now c) }
     {

@@ -1,4 +1,4 @@
-// Reads cases from standard input, one to a line, runs each on the library, and writes a line of what came of it.
+//! Reads cases from standard input, one to a line, runs each on the library, and writes a line of what came of it.
 #![tactic(auto)]
 
 mod cases;

@@ -1,4 +1,4 @@
-// What a case leads to, and how it is written.
+//! What a case leads to, and how it is written.
 ghost use Rattle.std.specs.Prelude.{◌≡◌, length, drop, Decides, bit_xor};
 ghost use Rattle.cell.specs.Sorting.{header_of};
 ghost use Rattle.scrambler.specs.Coding.{header_mask, masked};
@@ -19,10 +19,10 @@ use scrambler::payload::mask_payload;
 use scrambler::samples::{header_mask, predicted_samples};
 use std::fmt;
 
-// What came of a case that was not refused.
+/// What came of a case that was not refused.
 #[derive(Drop)]
 pub enum Outcome {
-    // the cell on the line
+    /// the cell on the line
     Line {
         octets: [u8; LINE_OCTETS],
         // the phase of the next cell
@@ -32,13 +32,13 @@ pub enum Outcome {
         // the header agrees, and its syndrome is the two samples
         agrees: bool,
     },
-    // the phase found
+    /// the phase found
     Phase(u32),
-    // the phase of the next cell
+    /// the phase of the next cell
     Next(u32),
 }
 
-// Runs a case on the library.
+/// Runs a case on the library.
 pub fn run(case: &Case) -> Result<Outcome, Refusal>
     ensures { Answers case.now result }
 {

@@ -1,4 +1,4 @@
-// What the programs share: the words of their command lines, the refusal of one, and reading until a place is full.
+//! What the programs share: the words of their command lines, the refusal of one, and reading until a place is full.
 #![tactic(auto)]
 
 pub mod fault;

@@ -1,4 +1,4 @@
-// The words of a command line.
+//! The words of a command line.
 ghost use Rattle.std.specs.Prelude.{◌≡◌, [], map, get_or, string_bytes};
 
 use anyhow::anyhow;
@@ -6,7 +6,7 @@ use std::env;
 use std::env::Env;
 use std::io::{Eprint, ErrorKind};
 
-// The words behind the program's name. Says how the program is used where one of them is no text, which cannot be shown.
+/// The words behind the program's name. Says how the program is used where one of them is no text, which cannot be shown.
 pub fn words<R: Env + Eprint + AllocGlobal>(rt: &R, usage: &str) -> anyhow::Result<Vec<String>> {
     match env::args(rt) {
         Ok(args) => {
@@ -21,7 +21,7 @@ pub fn words<R: Env + Eprint + AllocGlobal>(rt: &R, usage: &str) -> anyhow::Resu
     }
 }
 
-// The word with this number, counted from 0: an empty one where there are no more.
+/// The word with this number, counted from 0: an empty one where there are no more.
 pub fn word(words: &[String], at: usize) -> &str
     ensures { result.now ≡ get_or (map string_bytes words.now) at [] }
 {

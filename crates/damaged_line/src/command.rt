@@ -1,4 +1,4 @@
-// The commands, one to a line: `pass N`, `turn BITS`, `noise N`, `start PHASE`, `f3 OCTET` and `reset`.
+//! The commands, one to a line: `pass N`, `turn BITS`, `noise N`, `start PHASE`, `f3 OCTET` and `reset`.
 ghost use Rattle.std.specs.Prelude.{◌≡◌};
 ghost use Rattle.damaged_line.specs.Command.{skipped, octet_of, Spells, Reads};
 
@@ -8,26 +8,26 @@ use text::{number, words};
 
 #[derive(Clone, Copy)]
 pub enum Command {
-    // so many cells go over the line as they are sent
+    /// so many cells go over the line as they are sent
     Pass(u32),
-    // one cell goes over with these bits turned
+    /// one cell goes over with these bits turned
     Turn(Damage),
-    // so many octets come that nobody sent
+    /// so many octets come that nobody sent
     Noise(u32),
-    // the sender starts again at this phase
+    /// the sender starts again at this phase
     Start(u32),
-    // the F3 payload is 48 times this octet
+    /// the F3 payload is 48 times this octet
     F3(u8),
-    // the receiving end is reset
+    /// the receiving end is reset
     Reset,
 }
 
-// A line that is neither empty nor a comment, and spells no command.
+/// A line that is neither empty nor a comment, and spells no command.
 #[derive(Clone, Copy, Debug, PartialEq, Eq)]
 pub struct Malformed;
 
 impl Command {
-    // The command of a line without blanks at its ends; none where the line is empty or a comment.
+    /// The command of a line without blanks at its ends; none where the line is empty or a comment.
     pub fn read(line: &[u8]) -> Result<Option<Command>, Malformed>
         ensures { Reads line.now result }
     {

@@ -1,24 +1,24 @@
-// Damage: which bits of a cell on the line are turned.
+//! Damage: which bits of a cell on the line are turned.
 ghost use Rattle.std.specs.Prelude.{◌≡◌, ◌<◌};
 ghost use Rattle.text.specs.Words.{is_blank};
 ghost use Rattle.std.specs.List.{slice_split};
 ghost use Rattle.damaged_line.specs.Damage.{none, octet_at, mask_at, turns, marked, marked_if, marked_by, marked_all, damage_of, turned};
 
+use cell::sizes;
 use cell::sizes::LINE_OCTETS;
 use std::fmt;
 use text::{number, words};
 
-// How many bits a cell has on the line.
-const LINE_BITS: u32 = 424;
+const LINE_BITS: u32 = sizes::LINE_BITS as u32;
 
-// A mark at each bit of a cell that is turned. Bit 0 is the first sent: the top bit of octet 0.
+/// A mark at each bit of a cell that is turned. Bit 0 is the first sent: the top bit of octet 0.
 #[derive(Clone, Copy)]
 pub struct Damage {
     marks: [u8; LINE_OCTETS],
 }
 
 impl Damage {
-    // No bit is turned.
+    /// No bit is turned.
     pub fn none() -> Damage
         ensures { result ≡ none }
     {
@@ -27,7 +27,7 @@ impl Damage {
         }
     }
 
-    // The bits that the words of a text name, each once; none where a word names anything else.
+    /// The bits that the words of a text name, each once; none where a word names anything else.
     pub fn read(text: &[u8]) -> Option<Damage>
         ensures { result ≡ damage_of text.now }
     {
@@ -80,7 +80,7 @@ impl Damage {
         damage
     }
 
-    // The octets of a cell on the line, with the marked bits turned, and no others.
+    /// The octets of a cell on the line, with the marked bits turned, and no others.
     pub fn turned(&self, line: &[u8; LINE_OCTETS]) -> [u8; LINE_OCTETS]
         ensures { result ≡ turned self.now line.now }
     {

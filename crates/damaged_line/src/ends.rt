@@ -1,4 +1,4 @@
-// A sending and a receiving end, of which the theorem of the line holds: that is part of the type, and each call keeps it.
+//! A sending and a receiving end, of which the theorem of the line holds: that is part of the type, and each call keeps it.
 ghost use Rattle.std.specs.Prelude.{◌≡◌};
 ghost use Rattle.receiver.specs.Feed.{was_reset, events_of, FeedAnswer, Untouched};
 ghost use Rattle.receiver.specs.Handing.{Unasked};
@@ -19,7 +19,7 @@ use ring::ring::Ring;
 use sender::sender::Sender;
 use std::marker::Model;
 
-// Both ends. Calls on each lead from its making to where it stands, and what the theorem of the line says holds of these calls.
+/// Both ends. Calls on each lead from its making to where it stands, and what the theorem of the line says holds of these calls.
 #[derive(Drop)]
 pub struct Ends {
     sender: Sender,
@@ -35,7 +35,7 @@ impl Model for Ends {
 }
 
 impl Ends {
-    // Both ends as they are made.
+    /// Both ends as they are made.
     #[tactic(auto, using(crate::proofs::Standing::made_stand))]
     pub fn new() -> Ends
         ensures { result ≡ made_pair }
@@ -47,14 +47,14 @@ impl Ends {
         }
     }
 
-    // What the theorem of the line says holds of both ends: this call does nothing, and its contract shows it.
+    /// What the theorem of the line says holds of both ends: this call does nothing, and its contract shows it.
     pub fn stand(&self)
         ensures { Stand self.now }
     {
         let _ = &self.sender;
     }
 
-    // The sending end starts again at this phase. Refuses a phase of 0 or above 2^31 - 1.
+    /// The sending end starts again at this phase. Refuses a phase of 0 or above 2^31 - 1.
     pub fn start(&mut self, phase: u32) -> Result<(), Refusal>
         ensures answer { StartAnswer self.old.sender phase result self.new.sender }
         ensures receiver { self.new.receiver ≡ self.old.receiver }
@@ -63,7 +63,7 @@ impl Ends {
         self.sender.start(phase)
     }
 
-    // Sets the payload of the F3 cells that the sending end sends from now on. Refuses a payload not of 48 octets.
+    /// Sets the payload of the F3 cells that the sending end sends from now on. Refuses a payload not of 48 octets.
     pub fn set_f3(&mut self, payload: &[u8]) -> Result<(), Refusal>
         ensures answer { F3Answer self.old.sender payload.now result self.new.sender }
         ensures receiver { self.new.receiver ≡ self.old.receiver }
@@ -72,7 +72,7 @@ impl Ends {
         self.sender.set_f3(payload)
     }
 
-    // Writes the 53 octets of the sending end's next cell, and answers its kind. Refuses a place not of 53 octets.
+    /// Writes the 53 octets of the sending end's next cell, and answers its kind. Refuses a place not of 53 octets.
     pub fn send<S: Source>(&mut self, source: &mut S, place: &mut [u8]) -> Result<Kind, Refusal>
         ensures answer { SendAnswer self.old.sender (S.Source.waiting source.old) place.old result self.new.sender (S.Source.waiting source.new) place.new }
         ensures source { SourceAnswer result source.old source.new }
@@ -82,7 +82,7 @@ impl Ends {
         self.sender.send(source, place)
     }
 
-    // Octets come at the receiving end. Refuses no octets, and more than 4,096.
+    /// Octets come at the receiving end. Refuses no octets, and more than 4,096.
     pub fn feed<K: Sink>(
         &mut self,
         octets: &[u8],
@@ -98,7 +98,7 @@ impl Ends {
         self.receiver.feed(octets, sink, events)
     }
 
-    // The receiving end begins again.
+    /// The receiving end begins again.
     pub fn reset(&mut self)
         ensures receiver { self.new.receiver ≡ was_reset self.old.receiver }
         ensures sender { self.new.sender ≡ self.old.sender }
@@ -107,7 +107,7 @@ impl Ends {
         self.receiver.reset();
     }
 
-    // What can be read of the receiving end.
+    /// What can be read of the receiving end.
     pub fn readings(&self) -> Readings
         ensures { result ≡ readings_of self.now.receiver }
     {

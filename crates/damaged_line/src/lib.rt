@@ -1,4 +1,4 @@
-// A sending and a receiving end over a line with damage, as commands ask for it. The ends carry the theorem of the line in their type.
+//! A sending and a receiving end over a line with damage, as commands ask for it. The ends carry the theorem of the line in their type.
 #![tactic(auto)]
 
 pub mod command;

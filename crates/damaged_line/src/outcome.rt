@@ -1,4 +1,4 @@
-// Carrying commands out, and what comes of each.
+//! Carrying commands out, and what comes of each.
 ghost use Rattle.std.specs.Prelude.{◌≡◌, MatchResult};
 ghost use Rattle.damaged_line.specs.Outcome.{answered, Passed, Noised, CarriedOut};
 
@@ -14,10 +14,10 @@ use std::fmt;
 // An octet that nobody sent.
 const NOISE: u8 = 0xA5;
 
-// What came of a command.
+/// What came of a command.
 #[derive(Clone, Copy)]
 pub enum Outcome {
-    // cells were sent, and went up
+    /// cells were sent, and went up
     Went(Tally),
     Accepted,
     Refused(Refusal),
@@ -36,7 +36,7 @@ impl From<Result<(), Refusal>> for Outcome {
 }
 
 impl Trial {
-    // Carries a command out; its events go into the ring. It is not refused: where an end refuses, that is what comes of the command.
+    /// Carries a command out; its events go into the ring. It is not refused: where an end refuses, that is what comes of the command.
     pub fn carry_out(
         &mut self,
         command: Command,

@@ -1,4 +1,4 @@
-// Counts of cells that were sent, and of cells that went up.
+//! Counts of cells that were sent, and of cells that went up.
 ghost use Rattle.std.specs.Prelude.{◌≡◌, [], option_map};
 ghost use Rattle.std.specs.Str.{bytes_eq};
 ghost use Rattle.ring.specs.Ring.{held};
@@ -13,20 +13,20 @@ use ring::ring::Ring;
 use std::fmt;
 use std::num::Saturating;
 
-// A counter stops at its top.
+/// A counter stops at its top.
 #[derive(Clone, Copy, Default)]
 pub struct Tally {
     // cells sent, of each kind
     pub user: Saturating<u64>,
     pub f3: Saturating<u64>,
-    // cells that went up as one was sent just before
+    /// cells that went up as one was sent just before
     pub as_sent: Saturating<u64>,
-    // cells that went up otherwise
+    /// cells that went up otherwise
     pub changed: Saturating<u64>,
 }
 
 impl Tally {
-    // Counts a cell that was sent. No idle cell is counted.
+    /// Counts a cell that was sent. No idle cell is counted.
     pub fn count_sent(&mut self, kind: Kind)
         ensures { self.new ≡ counted_sent kind self.old }
     {
@@ -37,7 +37,7 @@ impl Tally {
         }
     }
 
-    // Takes all cells out of the ring in which they went up, and counts them beside the user cell that was sent, if one was.
+    /// Takes all cells out of the ring in which they went up, and counts them beside the user cell that was sent, if one was.
     pub fn count_up(&mut self, cells: &mut Ring<'_, UserCell>, sent: Option<UserCell>)
         ensures counted { self.new ≡ counted_all (option_map cell_of sent) (ring_cells cells.old) self.old }
         ensures empty { held cells.new ≡ [] }
@@ -57,7 +57,7 @@ impl Tally {
         }
     }
 
-    // Adds other counts.
+    /// Adds other counts.
     pub fn add(&mut self, other: Tally)
         ensures { self.new ≡ added self.old other }
     {

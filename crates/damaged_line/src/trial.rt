@@ -1,4 +1,4 @@
-// The trial: two ends, user cells with numbers, and the line between them.
+//! The trial: two ends, user cells with numbers, and the line between them.
 ghost use Rattle.std.specs.Prelude.{◌≡◌, option_map, MatchResult};
 ghost use Rattle.ports.specs.UserCell.{cell_of};
 ghost use Rattle.receiver.specs.Feed.{FeedWhy};
@@ -13,11 +13,9 @@ use cell::refusal::Refusal;
 use cell::sizes::{LINE_OCTETS, PAYLOAD_OCTETS};
 use ports::user_cell::UserCell;
 use receiver::event::EventRecord;
+use receiver::feeding::MOST_CELLS;
 use receiver_words::readings::Readings;
 use ring::ring::Ring;
-
-// As many cells as the largest feed can end, so that no feed finds the ring full.
-const CELL_PLACES: usize = 78;
 
 // The header of all user cells: VPI 0 and VCI 100.
 const HEADER: Header = Header(0x0000_0640);
@@ -35,7 +33,7 @@ pub struct Trial {
 }
 
 impl Trial {
-    // Both ends as they are made.
+    /// Both ends as they are made.
     pub fn new() -> Trial
         ensures { result ≡ trial_made }
     {
@@ -45,7 +43,7 @@ impl Trial {
         }
     }
 
-    // One cell is sent and goes over the line with this damage: what was sent, and what went up. It is not refused.
+    /// One cell is sent and goes over the line with this damage: what was sent, and what went up. It is not refused.
     pub fn pass_cell(
         &mut self,
         damage: &Damage,
@@ -73,8 +71,8 @@ impl Trial {
         Ok(kind)
     }
 
-    // Octets come at the receiving end, where a user cell was sent just before or none: what went up. Refuses no octets, and more than 4,096,
-    // and then nothing changes.
+    /// Octets come at the receiving end, where a user cell was sent just before or none: what went up. Refuses no octets, and more than 4,096,
+    /// and then nothing changes.
     pub fn feed(
         &mut self,
         octets: &[u8],
@@ -83,7 +81,7 @@ impl Trial {
     ) -> Result<Tally, Refusal>
         ensures { MatchResult result (λ counts. Came octets.now (option_map cell_of sent) self.old events.old counts self.new events.new) (λ e. FeedWhy octets.now e × (self.new ≡ self.old) × (events.new ≡ events.old)) }
     {
-        let mut places = [UserCell::blank(); CELL_PLACES];
+        let mut places = [UserCell::blank(); MOST_CELLS];
         let mut cells = Ring::new(&mut places);
         self.ends.feed(octets, &mut cells, events)?;
         let mut counts = Tally::default();
@@ -91,28 +89,28 @@ impl Trial {
         Ok(counts)
     }
 
-    // The sending end starts again at this phase. Refuses a phase of 0 or above 2^31 - 1.
+    /// The sending end starts again at this phase. Refuses a phase of 0 or above 2^31 - 1.
     pub fn start(&mut self, phase: u32) -> Result<(), Refusal>
         ensures { Starts phase self.old result self.new }
     {
         self.ends.start(phase)
     }
 
-    // The payload of the F3 cells that go out from now on is 48 times this octet. It is not refused.
+    /// The payload of the F3 cells that go out from now on is 48 times this octet. It is not refused.
     pub fn set_f3(&mut self, octet: u8) -> Result<(), Refusal>
         ensures { MatchResult result (λ _. F3Set octet self.old self.new) (λ _. ⊥) }
     {
         self.ends.set_f3(&[octet; PAYLOAD_OCTETS])
     }
 
-    // The receiving end begins again.
+    /// The receiving end begins again.
     pub fn reset(&mut self)
         ensures { self.new ≡ reset_trial self.old }
     {
         self.ends.reset();
     }
 
-    // What can be read of the receiving end.
+    /// What can be read of the receiving end.
     pub fn readings(&self) -> Readings
         ensures { result ≡ readings_of self.now.ends.receiver }
     {

@@ -1,4 +1,4 @@
-// Reads captured headers, one to a line, and says of each what it is and what is wrong with it.
+//! Reads captured headers, one to a line, and says of each what it is and what is wrong with it.
 #![tactic(auto)]
 
 use captured_headers::remark::Remark;

@@ -1,11 +1,11 @@
-// Lower-case hexadecimal digits: two to an octet, eight to a word. The kit's crate hex would take capitals too.
+//! Lower-case hexadecimal digits: two to an octet, eight to a word. The kit's crate hex would take capitals too.
 ghost use Rattle.std.specs.Prelude.{◌≡◌, ℕ, List, Some, IfOk, MatchOption};
 ghost use Rattle.hex_digits.specs.Digits.{digit_of, octet_of, word_of, SpellsOctets, spelled};
 
 use std::alloc::{AllocError, Global};
 use std::fmt;
 
-// The word that eight digits spell; none where the text is anything else.
+/// The word that eight digits spell; none where the text is anything else.
 pub fn word(text: &[u8]) -> Option<u32>
     ensures { result ≡ word_of text.now }
 {
@@ -16,7 +16,7 @@ pub fn word(text: &[u8]) -> Option<u32>
     Some(u32::from_be_bytes(octets))
 }
 
-// The octets that a text spells, two digits to each; none where it is anything else.
+/// The octets that a text spells, two digits to each; none where it is anything else.
 pub fn octets(heap: Global, text: &[u8]) -> Result<Option<Vec<u8>>, AllocError>
     ensures { IfOk result (λ o. MatchOption o ((xs : List ℕ) → SpellsOctets text.now xs → ⊥) (λ v. SpellsOctets text.now v.items)) }
 {
@@ -51,7 +51,7 @@ fn digit(letter: u8) -> Option<u8>
     }
 }
 
-// Octets to be written, two digits to each.
+/// Octets to be written, two digits to each.
 #[derive(Clone, Copy)]
 pub struct Hex<'a>(pub &'a [u8]);
 

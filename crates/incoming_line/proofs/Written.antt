@@ -8,12 +8,7 @@ use Rattle.ports.specs.UserCell.{cell_of}
 use Rattle.ports.specs.declared.user_cell.UserCell.{UserCell}
 use Rattle.receiver.specs.Event.{record_words}
 use Rattle.receiver.specs.declared.event.EventRecord.{EventRecord}
-use Rattle.ring.specs.declared.ring.Ring.{Ring}
-use Rattle.ring.specs.Ring.{held}
-use Rattle.incoming_line.specs.Line.{Fed}
-use Rattle.incoming_line.specs.Output.{written, cells_written, lines, events_listed, Passed}
-use Rattle.incoming_line.specs.declared.arguments.Arguments.{Arguments}
-use Rattle.incoming_line.specs.declared.line.Line.{Line}
+use Rattle.incoming_line.specs.Output.{written, cells_written, lines, events_listed}
 
 -- a writer that held w holds v now, and once it took bs too, it has taken all
 pub record Left (w : Option (List ℕ)) (all : List ℕ) (v : Option (List ℕ)) (bs : List ℕ) : Type 0 where
@@ -52,10 +47,3 @@ module _ (w : Option (List ℕ)) (all : List ℕ) (v : Option (List ℕ)) where
   unfolding lines
   all_events_listed v' true es l none same = Appends-kept w v v' all (all_written w all v _ l (ap lines none)) same
   all_events_listed v' false es l none same = Appends-kept w v v' all (all_written w all v _ l refl) same
-
--- a feed, and then all that it brought
-pub passed_on : (a : Arguments) (os : List ℕ) (n : ℕ) (l l' : Line) (cells cells' : Ring UserCell) (events events' : Ring EventRecord) (w v w' v' : Option (List ℕ))
-    → Fed os n l cells events l' cells' events' → Appends w w' (cells_written a.payloads (held cells')) → Appends v v' (events_listed a.events (held events'))
-    → Passed a os l cells events w v l' w' v'
-passed_on a os n l l' cells cells' events events' w v w' v' fed wrote listed =
-    record { taken = n; brought_cells = cells'; brought_events = events'; fed = fed; written = wrote; listed = listed }

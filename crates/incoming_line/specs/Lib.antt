@@ -2,3 +2,4 @@ pub mod Name
 pub mod Arguments
 pub mod Output
 pub mod Line
+pub mod Passing

@@ -1,4 +1,4 @@
--- What goes out after a feed.
+-- How cells and events are written.
 --
 --   written payloads cell       those of a cell's 52 octets that are written: all, or the 48 of its payload, behind the 4 of its header
 --   cells_written payloads cs   the same of the cells cs, one cell after the other
@@ -6,9 +6,6 @@
 --   events_listed listed es     the same where they are listed, and nothing where they are not
 --   Emptied ring r ring'        once all went out, the ring holds nothing, and has as many places as before
 --   Wrote w r w' octets         once all went out, what a writer is known to hold, w, grew by these octets
---   Passed a os l cells events w v l' w' v'
---                               the octets os were fed to the line l, with these rings lent; all cells handed up to the one were written to the
---                               writer that held w, and the events in the other listed to the one that held v, as the arguments a ask for
 use Rattle.std.specs.Prelude.{◌≡◌, ℕ, Bool, cond, List, [], ◌∷◌, ◌++◌, take, drop, Option, Result, OnOk}
 use Rattle.std.specs.Io.KnownBytes.{Appends}
 use Rattle.ring.specs.declared.ring.Ring.{Ring}
@@ -18,9 +15,6 @@ use Rattle.ports.specs.UserCell.{cell_of}
 use Rattle.ports.specs.declared.user_cell.UserCell.{UserCell}
 use Rattle.receiver.specs.Event.{record_words}
 use Rattle.receiver.specs.declared.event.EventRecord.{EventRecord}
-use Rattle.incoming_line.specs.Line.{Fed}
-use Rattle.incoming_line.specs.declared.arguments.Arguments.{Arguments}
-use Rattle.incoming_line.specs.declared.line.Line.{Line}
 
 abbrev pub written : Bool → List ℕ → List ℕ
 written payloads cell = cond payloads (take 48 (drop 4 cell)) cell
@@ -42,11 +36,3 @@ Emptied ring r ring' = OnOk r ((held ring' ≡ []) × (places ring' ≡ places r
 
 abbrev pub Wrote : {Y E : Type 0} → Option (List ℕ) → Result Y E → Option (List ℕ) → List ℕ → Type 0
 Wrote w r w' octets = OnOk r (Appends w w' octets)
-
-pub record Passed (a : Arguments) (os : List ℕ) (l : Line) (cells : Ring UserCell) (events : Ring EventRecord) (w v : Option (List ℕ)) (l' : Line) (w' v' : Option (List ℕ)) : Type 0 where
-  pub taken : ℕ
-  pub brought_cells : Ring UserCell
-  pub brought_events : Ring EventRecord
-  pub fed : Fed os taken l cells events l' brought_cells brought_events
-  pub written : Appends w w' (cells_written a.payloads (held brought_cells))
-  pub listed : Appends v v' (events_listed a.events (held brought_events))

@@ -1,4 +1,4 @@
-// The arguments: what they ask for, or why they are refused.
+//! The arguments: what they ask for, or why they are refused.
 ghost use Rattle.std.specs.Prelude.{◌≡◌, ◌+◌, ◌^◌, ◌<◌, map, length, string_bytes, Some};
 ghost use Rattle.incoming_line.specs.Arguments.{gave, taken, read_from, parsed, why_text};
 
@@ -6,26 +6,26 @@ use crate::name::Name;
 use command_line::fault::Fault;
 use std::fmt;
 
-// What the arguments ask for.
+/// What the arguments ask for.
 #[derive(Clone, Copy, Debug, Default, PartialEq, Eq)]
 pub struct Arguments {
-    // only the payloads of cells are written
+    /// only the payloads of cells are written
     pub payloads: bool,
-    // events are listed
+    /// events are listed
     pub events: bool,
 }
 
-// Why the arguments are refused: what is wrong with the one that a word names.
+/// Why the arguments are refused: what is wrong with the one that a word names.
 #[derive(Clone, Copy, Debug, PartialEq, Eq)]
 pub enum Why {
-    // no argument has this name
+    /// no argument has this name
     Unknown,
-    // it stands before too
+    /// it stands before too
     Repeated,
 }
 
 impl Arguments {
-    // What the words ask for, one to an argument, in any order.
+    /// What the words ask for, one to an argument, in any order.
     pub fn parse(words: &[String]) -> Result<Arguments, Fault<Why>>
         ensures { result ≡ parsed (map string_bytes words.now) }
     {

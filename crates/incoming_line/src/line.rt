@@ -1,4 +1,4 @@
-// The line as it comes in: the receiving end, and how much came so far.
+//! The line as it comes in: the receiving end, and how much came so far.
 ghost use Rattle.std.specs.Prelude.{◌≡◌, length};
 ghost use Rattle.receiver.specs.Feed.{made, events_of, FeedAnswer, Untouched};
 ghost use Rattle.receiver.specs.Handing.{Unasked};
@@ -13,12 +13,12 @@ use receiver::receiver::Receiver;
 use receiver_words::readings::Readings;
 use ring::ring::Ring;
 
-// What came in. A counter stops at its top.
+/// What came in. A counter stops at its top.
 #[derive(Clone, Copy, Debug, Default, PartialEq, Eq)]
 pub struct Tally {
-    // octets of the line
+    /// octets of the line
     pub octets: u64,
-    // cells handed up
+    /// cells handed up
     pub cells: u64,
 }
 
@@ -29,7 +29,7 @@ pub struct Line {
 }
 
 impl Line {
-    // A line on which nothing came yet.
+    /// A line on which nothing came yet.
     pub fn new() -> Line
         ensures receiver { result.receiver ≡ made }
         ensures tally { result.tally ≡ none }
@@ -40,7 +40,7 @@ impl Line {
         }
     }
 
-    // Feeds the receiving end, and counts the octets and the cells that the sink took. Refuses no octets, and more than 4,096.
+    /// Feeds the receiving end, and counts the octets and the cells that the sink took. Refuses no octets, and more than 4,096.
     pub fn feed<S: Sink>(
         &mut self,
         octets: &[u8],
@@ -59,7 +59,7 @@ impl Line {
         answer
     }
 
-    // What came in, and how the receiving end stands.
+    /// What came in, and how the receiving end stands.
     pub fn summary(&self) -> Summary
         ensures { result ≡ summary_of self.now }
     {

@@ -1,4 +1,4 @@
-// The names of the arguments.
+//! The names of the arguments.
 ghost use Rattle.std.specs.Prelude.{◌≡◌};
 ghost use Rattle.incoming_line.specs.Name.{named};
 

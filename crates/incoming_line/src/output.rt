@@ -1,4 +1,4 @@
-// What goes out after each feed: the cells and the events that it brought.
+//! What goes out after each feed: the cells and the events that it brought.
 ghost use Rattle.ring.specs.Ring.{held};
 ghost use Rattle.ports.specs.Cell.{octets};
 ghost use Rattle.ports.specs.UserCell.{cell_of};
@@ -11,7 +11,7 @@ use ring::ring::Ring;
 use std::io;
 use std::io::Write;
 
-// Writes all cells of a ring, the oldest first, whole or only their payloads. None is left.
+/// Writes all cells of a ring, the oldest first, whole or only their payloads. None is left.
 #[tactic(auto, using(crate::proofs::Written::nothing_written, crate::proofs::Written::cell_written, crate::proofs::Written::all_cells_written))]
 pub fn write_cells<W: Write>(
     cells: &mut Ring<'_, UserCell>,
@@ -27,7 +27,7 @@ pub fn write_cells<W: Write>(
     Ok(())
 }
 
-// Lists all events of a ring, the oldest first, or lets them go. None is left.
+/// Lists all events of a ring, the oldest first, or lets them go. None is left.
 #[tactic(auto, using(crate::proofs::Written::nothing_written, crate::proofs::Written::event_listed, crate::proofs::Written::event_let_go, crate::proofs::Written::all_events_listed))]
 pub fn list_events<W: Write>(
     events: &mut Ring<'_, EventRecord>,

@@ -1,10 +1,10 @@
-// The summary of a line.
+//! The summary of a line.
 use crate::line::Tally;
 use receiver::book::Counters;
 use receiver_words::readings::Readings;
 use std::fmt;
 
-// What came in, and how the receiving end stands.
+/// What came in, and how the receiving end stands.
 #[derive(Clone, Copy, PartialEq, Eq)]
 pub struct Summary {
     pub tally: Tally,

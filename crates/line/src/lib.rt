@@ -1,4 +1,4 @@
-// Both ends of the line: histories of their calls, and the theorem over them.
+//! Both ends of the line: histories of their calls, and the theorem over them.
 #![tactic(auto)]
 
 pub mod theorem;

@@ -1,4 +1,4 @@
-// The arguments: what they ask for, or why they are refused.
+//! The arguments: what they ask for, or why they are refused.
 ghost use Rattle.std.specs.Prelude.{◌≡◌, ◌+◌, ◌^◌, ◌<◌, Some, map, length, string_bytes};
 ghost use Rattle.outgoing_line.specs.Arguments.{spelled, in_range, once_more, field_given, header_given, gave, taken, alone, header_of, arguments_of, read_from, parsed, why_text};
 
@@ -9,40 +9,40 @@ use scrambler::generator::LAST_PHASE;
 use std::fmt;
 use text::number;
 
-// What the arguments ask for.
+/// What the arguments ask for.
 #[derive(Clone, Copy, PartialEq, Eq)]
 pub struct Arguments {
-    // the phase of the first cell
+    /// the phase of the first cell
     pub phase: u32,
-    // how many cells go out before the block
+    /// how many cells go out before the block
     pub lead: u32,
-    // the header of the block's cells
+    /// the header of the block's cells
     pub header: Header,
-    // the number of the word that names the file of the F3 payload
+    /// the number of the word that names the file of the F3 payload
     pub f3: Option<usize>,
 }
 
-// Why the arguments are refused: what is wrong with the one that a word names.
+/// Why the arguments are refused: what is wrong with the one that a word names.
 #[derive(Clone, Copy, Debug, PartialEq, Eq)]
 pub enum Why {
-    // no argument has this name
+    /// no argument has this name
     Unknown,
-    // its value is missing
+    /// its value is missing
     NoValue,
-    // its value is no number below 2^32
+    /// its value is no number below 2^32
     NoNumber,
-    // its value is too small or too large
+    /// its value is too small or too large
     OutOfRange,
-    // its value heads idle or F3 cells
+    /// its value heads idle or F3 cells
     Reserved,
-    // it stands before too
+    /// it stands before too
     Repeated,
-    // the header is given as a whole and by its fields
+    /// the header is given as a whole and by its fields
     TwoHeaders,
 }
 
 impl Arguments {
-    // What the words ask for, two to an argument: its name and its value.
+    /// What the words ask for, two to an argument: its name and its value.
     #[tactic(auto, using(crate::proofs::Pairs::asked))]
     pub fn parse(words: &[String]) -> Result<Arguments, Fault<Why>>
         ensures { result ≡ parsed (map string_bytes words.now) }

@@ -1,4 +1,4 @@
-// The payload of F3 cells, as an input gives it.
+//! The payload of F3 cells, as an input gives it.
 ghost use Rattle.std.specs.Prelude.{◌≡◌};
 ghost use Rattle.outgoing_line.specs.F3Payload.{PayloadAnswer};
 ghost use Rattle.outgoing_line.specs.declared.f3_payload.PayloadError.TheVariants.{Unread};
@@ -8,12 +8,12 @@ use command_line::input::fill;
 use std::io::Read;
 use std::{fmt, io};
 
-// Why an input gives no payload.
+/// Why an input gives no payload.
 #[derive(Debug, Drop)]
 pub enum PayloadError {
-    // it cannot be read
+    /// it cannot be read
     Unread(io::Error),
-    // it is not of 48 octets
+    /// it is not of 48 octets
     WrongLength,
 }
 
@@ -25,7 +25,7 @@ impl From<io::Error> for PayloadError {
     }
 }
 
-// The payload that is all that is left of an input.
+/// The payload that is all that is left of an input.
 #[tactic(auto, using(crate::proofs::Payloads::payload_whole, crate::proofs::Payloads::payload_other))]
 pub fn read<R: Read>(input: &mut R) -> Result<[u8; PAYLOAD_OCTETS], PayloadError>
     ensures { PayloadAnswer (R.remaining input.old) result }

@@ -1,4 +1,4 @@
-// What `send` is made of: its arguments, the line as it goes out, and the counts on it.
+//! What `send` is made of: its arguments, the line as it goes out, and the counts on it.
 #![tactic(auto)]
 
 pub mod arguments;

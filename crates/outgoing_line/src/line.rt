@@ -1,4 +1,4 @@
-// The line as it goes out: the sending end, its phase, and what was sent so far.
+//! The line as it goes out: the sending end, its phase, and what was sent so far.
 ghost use Rattle.std.specs.Prelude.{◌≡◌, ◌^◌, ◌<◌, MatchResult};
 ghost use Rattle.sender.specs.Sender.{fresh, started, with_f3, kind_sent, Sends, StartWhy};
 ghost use Rattle.outgoing_line.specs.Tally.{none, counted_cell, counted_octets};
@@ -17,7 +17,7 @@ pub struct Line {
 }
 
 impl Line {
-    // A line whose first cell has this phase. Refuses a phase of 0 or above 2^31 - 1.
+    /// A line whose first cell has this phase. Refuses a phase of 0 or above 2^31 - 1.
     pub fn start(phase: u32) -> Result<Line, Refusal>
         ensures { MatchResult result (λ l. (0 < phase) × (phase < 2 ^ 31) × (l.sender ≡ started fresh phase) × (l.tally ≡ none)) (λ e. StartWhy phase e) }
     {
@@ -29,7 +29,7 @@ impl Line {
         })
     }
 
-    // Sets the payload of the F3 cells that go out from now on.
+    /// Sets the payload of the F3 cells that go out from now on.
     pub fn set_f3(&mut self, payload: &[u8; PAYLOAD_OCTETS])
         ensures sender { self.new.sender ≡ with_f3 self.old.sender payload.now }
         ensures same { self.new.tally ≡ self.old.tally }
@@ -39,7 +39,7 @@ impl Line {
         };
     }
 
-    // Sends the next cell, and counts it: its octets on the line.
+    /// Sends the next cell, and counts it: its octets on the line.
     pub fn next_cell<S: Source>(&mut self, source: &mut S) -> [u8; LINE_OCTETS]
         ensures sent { Sends self.old.sender (S.Source.waiting source.old) (kind_sent self.old.sender (S.Source.waiting source.old)) result self.new.sender (S.Source.waiting source.new) }
         ensures tally { self.new.tally ≡ counted_cell (kind_sent self.old.sender (S.Source.waiting source.old)) self.old.tally }
@@ -49,7 +49,7 @@ impl Line {
         octets
     }
 
-    // Counts octets that were read.
+    /// Counts octets that were read.
     pub fn count_octets(&mut self, octets: usize)
         ensures tally { self.new.tally ≡ counted_octets octets self.old.tally }
         ensures same { self.new.sender ≡ self.old.sender }
@@ -57,7 +57,7 @@ impl Line {
         self.tally.count_octets(octets);
     }
 
-    // What was read and sent so far, and the phase of the next cell.
+    /// What was read and sent so far, and the phase of the next cell.
     pub fn summary(&self) -> Summary
         ensures tally { result.tally ≡ self.now.tally }
         ensures phase { result.phase ≡ self.now.sender.phase }

@@ -1,8 +1,8 @@
-// The summary of a line.
+//! The summary of a line.
 use crate::tally::Tally;
 use std::fmt;
 
-// What was read and sent, and the phase of the cell that would be next.
+/// What was read and sent, and the phase of the cell that would be next.
 #[derive(Clone, Copy, PartialEq, Eq)]
 pub struct Summary {
     pub tally: Tally,

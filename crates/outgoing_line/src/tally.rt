@@ -1,23 +1,23 @@
-// Counts of what was read and sent.
+//! Counts of what was read and sent.
 ghost use Rattle.std.specs.Prelude.{◌≡◌, Some};
 ghost use Rattle.outgoing_line.specs.Tally.{counted_cell, counted_octets, tally_text};
 
 use cell::header::Kind;
 use std::fmt;
 
-// A counter stops at its top.
+/// A counter stops at its top.
 #[derive(Clone, Copy, Debug, Default, PartialEq, Eq)]
 pub struct Tally {
-    // octets of the block
+    /// octets of the block
     pub octets: u64,
-    // cells of each kind
+    /// cells of each kind
     pub idle: u64,
     pub f3: u64,
     pub user: u64,
 }
 
 impl Tally {
-    // Counts a cell of this kind.
+    /// Counts a cell of this kind.
     pub fn count_cell(&mut self, kind: Kind)
         ensures { self.new ≡ counted_cell kind self.old }
     {
@@ -28,7 +28,7 @@ impl Tally {
         }
     }
 
-    // Counts so many octets.
+    /// Counts so many octets.
     pub fn count_octets(&mut self, octets: usize)
         ensures { self.new ≡ counted_octets octets self.old }
     {

@@ -18,17 +18,12 @@ pub record SinkState : Type 0 where
   pub serves : ℕ → Bool
 
 abbrev pub PutWhy : SinkState → ℕ → List ℕ → Refusal → Type 0
-PutWhy s header payload NoOctets = ⊥
-PutWhy s header payload TooManyOctets = ⊥
-PutWhy s header payload BadPhase = ⊥
 PutWhy s header payload WrongLength = (number_of WrongLength ≡ 4) × (length payload ≢ 48)
 PutWhy s header payload ReservedHeader = (number_of ReservedHeader ≡ 5) × (length payload ≡ 48) × (reserved header ≡ true)
 PutWhy s header payload NotServed = (number_of NotServed ≡ 6) × (length payload ≡ 48) × (reserved header ≡ false) × (s.serves header ≡ false)
 PutWhy s header payload NoSpace =
     (number_of NoSpace ≡ 7) × (length payload ≡ 48) × (reserved header ≡ false) × (s.serves header ≡ true) × (s.space (connection_of header) ≡ 0)
-PutWhy s header payload NoneWaiting = ⊥
-PutWhy s header payload BadSampleWord = ⊥
-PutWhy s header payload NoOnePhase = ⊥
+PutWhy s header payload _ = ⊥
 
 pub record Put (s : SinkState) (header : ℕ) (payload : List ℕ) (s' : SinkState) : Type 0 where
   pub whole : length payload ≡ 48

@@ -11,16 +11,9 @@ use Rattle.cell.specs.declared.refusal.Refusal.TheVariants.{NoOctets, TooManyOct
 use Rattle.ports.specs.Cell.{Cell, octets}
 
 abbrev pub TakeWhy : List Cell → List ℕ → Refusal → Type 0
-TakeWhy cells place NoOctets = ⊥
-TakeWhy cells place TooManyOctets = ⊥
-TakeWhy cells place BadPhase = ⊥
 TakeWhy cells place WrongLength = (number_of WrongLength ≡ 4) × (length place ≢ 52)
-TakeWhy cells place ReservedHeader = ⊥
-TakeWhy cells place NotServed = ⊥
-TakeWhy cells place NoSpace = ⊥
 TakeWhy cells place NoneWaiting = (number_of NoneWaiting ≡ 8) × (length place ≡ 52) × (cells ≡ [])
-TakeWhy cells place BadSampleWord = ⊥
-TakeWhy cells place NoOnePhase = ⊥
+TakeWhy cells place _ = ⊥
 
 pub record Taken (cells : List Cell) (place : List ℕ) (rest : List Cell) : Type 0 where
   pub cell : Cell

@@ -18,16 +18,9 @@ abbrev pub cell_of : UserCell → Cell
 cell_of u = record { header = u.header.0; payload = u.payload }
 
 abbrev pub MakeWhy : ℕ → List ℕ → Refusal → Type 0
-MakeWhy header payload NoOctets = ⊥
-MakeWhy header payload TooManyOctets = ⊥
-MakeWhy header payload BadPhase = ⊥
 MakeWhy header payload WrongLength = (number_of WrongLength ≡ 4) × (length payload ≢ 48)
 MakeWhy header payload ReservedHeader = (number_of ReservedHeader ≡ 5) × (length payload ≡ 48) × (reserved header ≡ true)
-MakeWhy header payload NotServed = ⊥
-MakeWhy header payload NoSpace = ⊥
-MakeWhy header payload NoneWaiting = ⊥
-MakeWhy header payload BadSampleWord = ⊥
-MakeWhy header payload NoOnePhase = ⊥
+MakeWhy header payload _ = ⊥
 
 pub record IsUserPayload (header : ℕ) (payload p : List ℕ) : Type 0 where
   pub same : p ≡ payload
@@ -38,16 +31,8 @@ abbrev pub Makes : ℕ → List ℕ → Result UserCell Refusal → Type 0
 Makes header payload r = MatchResult r (λ u. cell_of u ≡ record { header = header; payload = payload }) (λ e. MakeWhy header payload e)
 
 abbrev pub WriteWhy : List ℕ → Refusal → Type 0
-WriteWhy place NoOctets = ⊥
-WriteWhy place TooManyOctets = ⊥
-WriteWhy place BadPhase = ⊥
 WriteWhy place WrongLength = (number_of WrongLength ≡ 4) × (length place ≢ 52)
-WriteWhy place ReservedHeader = ⊥
-WriteWhy place NotServed = ⊥
-WriteWhy place NoSpace = ⊥
-WriteWhy place NoneWaiting = ⊥
-WriteWhy place BadSampleWord = ⊥
-WriteWhy place NoOnePhase = ⊥
+WriteWhy place _ = ⊥
 
 abbrev pub Writes : {X : Type 0} → UserCell → List ℕ → Result X Refusal → List ℕ → Type 0
 Writes u place r place' = MatchResult r (λ _. (length place ≡ 52) × (place' ≡ octets (cell_of u))) (λ e. WriteWhy place e × (place' ≡ place))

@@ -1,4 +1,4 @@
-// A ring of user cells as a source, counted, and as a sink.
+//! A ring of user cells as a source, counted, and as a sink.
 ghost use Rattle.ports.specs.CellRing.{ring_cells, ring_users, ring_state, ring_bounded, RingPut, RingTake};
 ghost use Rattle.ports.specs.Sink.{PutAnswer};
 ghost use Rattle.ports.specs.Source.{Takes};

@@ -1,4 +1,4 @@
-// A sink that serves nothing.
+//! A sink that serves nothing.
 ghost use Rattle.ports.specs.Closed.{closed, closed_bounded};
 
 use crate::checks::user_payload;
@@ -6,7 +6,7 @@ use crate::sink::Sink;
 use cell::header::Header;
 use cell::refusal::Refusal;
 
-// A sink that serves nothing.
+/// A sink that serves nothing.
 #[derive(Clone, Copy, Debug, Default, PartialEq, Eq, Hash)]
 pub struct Closed;
 

@@ -1,4 +1,4 @@
-// Draining a counted source into a sink.
+//! Draining a counted source into a sink.
 ghost use Rattle.std.specs.Prelude.{◌≡◌};
 ghost use Rattle.ports.specs.Drain.{Stepped, Drains};
 
@@ -9,7 +9,7 @@ use cell::octets::cell_parts;
 use cell::refusal::Refusal;
 use cell::sizes::CELL_OCTETS;
 
-// Moves every cell of the source into the sink. A put that is refused ends it, and its cell stays in the source.
+/// Moves every cell of the source into the sink. A put that is refused ends it, and its cell stays in the source.
 pub fn drain<S: CountedSource, K: Sink>(from: &mut S, to: &mut K) -> Drained
     ensures { Drains (S.Source.waiting from.old) (K.Sink.state to.old) result (S.Source.waiting from.new) (K.Sink.state to.new) }
 {

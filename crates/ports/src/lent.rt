@@ -1,4 +1,4 @@
-// What is lent is a source or a sink as well: a `&mut` to one has its meaning.
+//! What is lent is a source or a sink as well: a `&mut` to one has its meaning.
 use crate::sink::Sink;
 use crate::source::{CountedSource, Source};
 use cell::header::Header;

@@ -1,4 +1,4 @@
-// Where user cells come from and go to: sources and sinks by their meaning, rings of cells, pairs, splits and draining.
+//! Where user cells come from and go to: sources and sinks by their meaning, rings of cells, pairs, splits and draining.
 #![tactic(auto)]
 
 pub mod cell_ring;

@@ -1,4 +1,4 @@
-// Two sources in a row.
+//! Two sources in a row.
 ghost use Rattle.std.specs.Prelude.{◌++◌};
 ghost use Rattle.ports.specs.Cell.{User};
 ghost use Rattle.ports.specs.Pair.{PairTake};
@@ -8,7 +8,7 @@ ghost use Rattle.std.proofs.ByRecursion.{All-append};
 use crate::source::{CountedSource, Source};
 use cell::refusal::Refusal;
 
-// Two sources in a row: the cells of the first wait before those of the second.
+/// Two sources in a row: the cells of the first wait before those of the second.
 #[derive(Drop)]
 pub struct Pair<P, Q> {
     pub first: P,

@@ -1,4 +1,4 @@
-// Two sinks, told apart by the connection.
+//! Two sinks, told apart by the connection.
 ghost use Rattle.std.specs.Prelude.{◌≡◌, nat_lt};
 ghost use Rattle.cell.specs.Header.{connection_of};
 ghost use Rattle.ports.specs.Sink.{PutAnswer};
@@ -8,7 +8,7 @@ use crate::sink::Sink;
 use cell::header::Header;
 use cell::refusal::Refusal;
 
-// Two sinks and a number: lower connections go left, the others right.
+/// Two sinks and a number: lower connections go left, the others right.
 #[derive(Drop)]
 pub struct Split<L, R> {
     pub left: L,

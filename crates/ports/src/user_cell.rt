@@ -1,4 +1,4 @@
-// The record of a user cell. Its calls stand in a module of their own, since their contracts name it.
+//! The record of a user cell. Its calls stand in a module of their own, since their contracts name it.
 ghost use Rattle.std.specs.Prelude.{◌≡◌, ◌^◌, ◌<◌, false, length};
 ghost use Rattle.cell.specs.Header.{reserved};
 
@@ -7,7 +7,7 @@ use cell::sizes::PAYLOAD_OCTETS;
 
 mod calls;
 
-// A user cell: no value carries a reserved header.
+/// A user cell: no value carries a reserved header.
 #[derive(Clone, Copy, Debug, PartialEq, Eq)]
 pub struct UserCell {
     header: Header,

@@ -1,4 +1,4 @@
-// What the tests check.
+//! What the tests check.
 ghost use Rattle.std.specs.Prelude.{◌≡◌, IfOk, IsTrue};
 ghost use Rattle.ports_tests.specs.Refused.{refused_by};
 

@@ -1,4 +1,4 @@
-// Tests of rings, sources, sinks and draining on real data, and a source written by hand.
+//! Tests of rings, sources, sinks and draining on real data, and a source written by hand.
 #![tactic(auto)]
 
 #[cfg(test)]

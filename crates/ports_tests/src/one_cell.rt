@@ -1,4 +1,4 @@
-// A source written by hand: it holds one cell, or none.
+//! A source written by hand: it holds one cell, or none.
 ghost use Rattle.ports_tests.specs.ByHand.{cell_in, users_in};
 
 use cell::refusal::Refusal;
@@ -6,7 +6,7 @@ use ports::checks::check_place;
 use ports::source::{CountedSource, Source};
 use ports::user_cell::UserCell;
 
-// The cell that waits, if one does.
+/// The cell that waits, if one does.
 #[derive(Clone, Copy)]
 pub struct OneCell {
     pub slot: Option<UserCell>,

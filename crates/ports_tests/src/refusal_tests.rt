@@ -1,4 +1,4 @@
-// Every refusal of sources, sinks and rings, and a drain that one ends.
+//! Every refusal of sources, sinks and rings, and a drain that one ends.
 use crate::checks::refused;
 use crate::one_cell::OneCell;
 use blocks::block_sink::BlockSink;

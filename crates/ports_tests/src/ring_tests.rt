@@ -1,4 +1,4 @@
-// Rings of events in 0, 1, 1,024 and 1,025 places.
+//! Rings of events in 0, 1, 1,024 and 1,025 places.
 use crate::checks::{check, refused};
 use ring::ring::Ring;
 use std::test::Fail;

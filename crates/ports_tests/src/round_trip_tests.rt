@@ -1,4 +1,4 @@
-// A block of 100,000 octets through block sources, a pair, a ring, a split and block sinks, and back.
+//! A block of 100,000 octets through block sources, a pair, a ring, a split and block sinks, and back.
 use crate::checks::check;
 use blocks::block_sink::BlockSink;
 use blocks::block_source::BlockSource;

@@ -61,14 +61,7 @@ pub record Feeds (os : List ℕ) (r : Receiver) (k : SinkState) (q : Events) (n 
 abbrev pub FeedWhy : List ℕ → Refusal → Type 0
 FeedWhy os NoOctets = (number_of NoOctets ≡ 1) × (length os ≡ 0)
 FeedWhy os TooManyOctets = (number_of TooManyOctets ≡ 2) × (4096 < length os)
-FeedWhy os BadPhase = ⊥
-FeedWhy os WrongLength = ⊥
-FeedWhy os ReservedHeader = ⊥
-FeedWhy os NotServed = ⊥
-FeedWhy os NoSpace = ⊥
-FeedWhy os NoneWaiting = ⊥
-FeedWhy os BadSampleWord = ⊥
-FeedWhy os NoOnePhase = ⊥
+FeedWhy os _ = ⊥
 
 abbrev pub FeedAnswer : List ℕ → Receiver → SinkState → Events → Result ℕ Refusal → Receiver → SinkState → Events → Type 0
 FeedAnswer os r k q answer r' k' q' =

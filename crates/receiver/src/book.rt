@@ -1,4 +1,4 @@
-// What the receiving end writes down: counters, the bits seen and the last F3 payload. Events go into a ring lent by the caller.
+//! What the receiving end writes down: counters, the bits seen and the last F3 payload. Events go into a ring lent by the caller.
 ghost use Rattle.std.specs.Prelude.{◌≡◌};
 ghost use Rattle.receiver.specs.Book.{blank, bump, bit_counted, f3_stored, marked, posted, posted_if, header_noted, replied, log_of};
 
@@ -7,29 +7,29 @@ use cell::sizes::PAYLOAD_OCTETS;
 use ring::ring::Ring;
 use tracker::events::{HeaderCause, HeaderEvents};
 
-// What has happened since making. Each counter stops at 4,294,967,295.
+/// What has happened since making. Each counter stops at 4,294,967,295.
 #[derive(Clone, Copy, Debug, Default, PartialEq, Eq, Hash)]
 pub struct Counters {
-    // user cells that a sink took
+    /// user cells that a sink took
     pub taken: u32,
-    // headers mended
+    /// headers mended
     pub mended: u32,
-    // wrong headers in Steady that were not mended
+    /// wrong headers in Steady that were not mended
     pub discarded: u32,
-    // user cells refused for want of space
+    /// user cells refused for want of space
     pub full: u32,
-    // user cells whose header the sink does not serve
+    /// user cells whose header the sink does not serve
     pub unserved: u32,
-    // F3 cells
+    /// F3 cells
     pub f3: u32,
-    // events that found the ring full
+    /// events that found the ring full
     pub lost: u32,
 }
 
 // The bit count stops here.
 const LAST_BIT: u64 = 0x7fff_ffff_ffff_ffff;
 
-// All that is written down.
+/// All that is written down.
 #[derive(Clone, Copy, Debug, PartialEq, Eq, Hash)]
 pub struct Book {
     pub(crate) counters: Counters,

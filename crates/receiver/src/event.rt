@@ -1,4 +1,4 @@
-// Events, by layers, and the plain numbers that stand for them in a ring.
+//! Events, by layers, and the plain numbers that stand for them in a ring.
 ghost use Rattle.std.specs.Prelude.{◌≡◌, Some, codes};
 ghost use Rattle.receiver.specs.Event.{event_numbers, record_of, Undoes, event_words, record_words};
 
@@ -6,14 +6,14 @@ use std::error::Error;
 use std::fmt;
 use tracker::events::{BoundaryCause, DescramblerCause, HeaderCause};
 
-// Layer 4, the sink.
+/// Layer 4, the sink.
 #[derive(Clone, Copy, Debug, PartialEq, Eq, Hash)]
 pub enum SinkCause {
     Full,
     NotServed,
 }
 
-// What happened, by its layer and its cause there.
+/// What happened, by its layer and its cause there.
 #[derive(Clone, Copy, Debug, PartialEq, Eq, Hash)]
 pub enum Event {
     Header(HeaderCause),
@@ -22,7 +22,7 @@ pub enum Event {
     Sink(SinkCause),
 }
 
-// An event in plain numbers, with the number of the last bit seen.
+/// An event in plain numbers, with the number of the last bit seen.
 #[derive(Clone, Copy, Debug, Default, PartialEq, Eq, Hash)]
 pub struct EventRecord {
     pub bit: u64,
@@ -30,12 +30,12 @@ pub struct EventRecord {
     pub cause: u8,
 }
 
-// The numbers of a record are those of no event.
+/// The numbers of a record are those of no event.
 #[derive(Clone, Copy, Debug, PartialEq, Eq, Hash)]
 pub struct UnknownEvent;
 
 impl Event {
-    // The numbers of the layer and of the cause, since a ring of events holds plain numbers. `TryFrom` undoes it.
+    /// The numbers of the layer and of the cause, since a ring of events holds plain numbers. `TryFrom` undoes it.
     pub fn numbers(self) -> (u8, u8)
         ensures { result ≡ event_numbers self }
     {
@@ -54,7 +54,7 @@ impl Event {
         }
     }
 
-    // The event as a ring holds it.
+    /// The event as a ring holds it.
     pub fn record(self, bit: u64) -> EventRecord
         ensures { result ≡ record_of bit self }
     {

@@ -1,4 +1,4 @@
-// Feeding octets of the line.
+//! Feeding octets of the line.
 ghost use Rattle.std.specs.Prelude.{◌≡◌, ◌<◌, ◌≤◌, [], ◌∷◌};
 ghost use Rattle.cell.specs.Header.{kind_of};
 ghost use Rattle.receiver.specs.Book.{brought, cell_noted, log_of};
@@ -15,8 +15,11 @@ use ports::sink::Sink;
 use ring::ring::Ring;
 use tracker::tracker::Moment;
 
-// A feed takes no more octets than this.
+/// A feed takes no more octets than this.
 pub const MOST_OCTETS: usize = 4096;
+
+/// A feed ends no more cells than this: the largest has the octets of 77 cells and a part.
+pub const MOST_CELLS: usize = 78;
 
 // The sink and the ring stay two parameters: the prover doesn't cover a struct of loans made of a field and of two parameters, and each call
 // would have to say that it still holds the same.
@@ -106,7 +109,7 @@ impl Receiver {
         taken
     }
 
-    // Takes 1 to 4,096 octets of the line, and answers how many cells the sink took. Refuses no octets, and more than 4,096.
+    /// Takes 1 to 4,096 octets of the line, and answers how many cells the sink took. Refuses no octets, and more than 4,096.
     #[tactic(auto, using(crate::proofs::Runs::works_no_octet, crate::proofs::Runs::works_octet, crate::proofs::Runs::feeds, crate::proofs::Unasked::unasked_kept, crate::proofs::Unasked::unasked_octet, crate::proofs::Unasked::unasked_all))]
     pub fn feed<S: Sink>(
         &mut self,
@@ -151,7 +154,7 @@ fn cells_taken(reply: Option<Result<(), SinkCause>>) -> u32
     }
 }
 
-// What holds of runs of bits: this call does nothing, and its contract is the proof of that.
+/// What holds of runs of bits: this call does nothing, and its contract is the proof of that.
 #[tactic(auto, using(crate::proofs::Runs::feed_laws))]
 pub fn feed_laws_hold()
     ensures { FeedLaws }

@@ -1,4 +1,4 @@
-// Handing a user cell up.
+//! Handing a user cell up.
 ghost use Rattle.std.specs.Prelude.{◌≡◌, false};
 ghost use Rattle.cell.specs.Header.{reserved};
 ghost use Rattle.receiver.specs.Handing.{Puts};

@@ -1,4 +1,4 @@
-// The receiving end: it is fed octets of the line, and hands user cells up to a sink.
+//! The receiving end: it is fed octets of the line, and hands user cells up to a sink.
 #![tactic(auto)]
 
 pub mod book;

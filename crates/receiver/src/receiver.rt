@@ -1,4 +1,4 @@
-// The receiving end: making it, reset and readings.
+//! The receiving end: making it, reset and readings.
 ghost use Rattle.std.specs.Prelude.{◌≡◌};
 ghost use Rattle.tracker.specs.Reading.{state_of};
 ghost use Rattle.receiver.specs.Feed.{made, was_reset};
@@ -8,7 +8,7 @@ use cell::sizes::PAYLOAD_OCTETS;
 use tracker::reading::State;
 use tracker::tracker::Tracker;
 
-// A receiving end of the line. It cannot be copied, so that each has one history.
+/// A receiving end of the line. It cannot be copied, so that each has one history.
 #[derive(Drop)]
 pub struct Receiver {
     pub(crate) tracker: Tracker,
@@ -24,7 +24,7 @@ impl Default for Receiver {
 }
 
 impl Receiver {
-    // A receiving end that has seen no bit: HUNT, Acquisition with confidence 0, correction mode, all counters zero.
+    /// A receiving end that has seen no bit: HUNT, Acquisition with confidence 0, correction mode, all counters zero.
     pub fn new() -> Receiver
         ensures { result ≡ made }
     {
@@ -34,14 +34,14 @@ impl Receiver {
         }
     }
 
-    // Begins again as if made, but keeps the counters, the bit count and the last F3 payload.
+    /// Begins again as if made, but keeps the counters, the bit count and the last F3 payload.
     pub fn reset(&mut self)
         ensures { self.new ≡ was_reset self.old }
     {
         self.tracker.reset();
     }
 
-    // The boundary, the descrambler and the mode.
+    /// The boundary, the descrambler and the mode.
     pub fn state(&self) -> State
         ensures { result ≡ state_of self.now.tracker }
     {
@@ -54,14 +54,14 @@ impl Receiver {
         self.book.counters
     }
 
-    // The number of the last bit seen. It stops at 2^63 - 1.
+    /// The number of the last bit seen. It stops at 2^63 - 1.
     pub fn bits(&self) -> u64
         ensures { result ≡ self.now.book.bits }
     {
         self.book.bits
     }
 
-    // The payload of the latest F3 cell; zeros before the first.
+    /// The payload of the latest F3 cell; zeros before the first.
     pub fn f3_payload(&self) -> &[u8; PAYLOAD_OCTETS]
         ensures { result.now ≡ self.now.book.f3 }
     {

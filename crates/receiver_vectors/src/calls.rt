@@ -1,4 +1,4 @@
-// The calls, one to a line: `end EVENTS SINK`, `feed OCTETS` and `reset`.
+//! The calls, one to a line: `end EVENTS SINK`, `feed OCTETS` and `reset`.
 ghost use Rattle.std.specs.Prelude.{IfOk};
 ghost use Rattle.receiver_vectors.specs.Calls.{RingText, SplitText, SinkText, EndText, FeedText, Reads};
 
@@ -7,30 +7,30 @@ use hex_digits::digits;
 use std::alloc::{AllocError, Global};
 use text::words;
 
-// What an end hands its cells to.
+/// What an end hands its cells to.
 #[derive(Clone, Copy)]
 pub enum SinkKind {
-    // a ring of so many places
+    /// a ring of so many places
     Ring(u32),
-    // a sink that serves nothing
+    /// a sink that serves nothing
     Closed,
-    // connections below the boundary go to a ring of so many places, all others to a sink that serves nothing
+    /// connections below the boundary go to a ring of so many places, all others to a sink that serves nothing
     Split { boundary: u32, places: u32 },
 }
 
-// What a line asks for.
+/// What a line asks for.
 #[derive(Drop)]
 pub enum Call {
-    // make an end with so many places for events, and this sink
+    /// make an end with so many places for events, and this sink
     End { event_places: u32, sink: SinkKind },
-    // feed these octets to it
+    /// feed these octets to it
     Feed(Vec<u8>),
-    // reset it
+    /// reset it
     Reset,
 }
 
 impl Call {
-    // The call that a line spells, if it spells one.
+    /// The call that a line spells, if it spells one.
     pub fn read(heap: Global, line: &[u8]) -> Result<Option<Call>, AllocError>
         ensures { IfOk result (λ c. Reads line.now c) }
     {

@@ -1,4 +1,4 @@
-// How what came of a call is written.
+//! How what came of a call is written.
 use crate::end::{Answer, End};
 use hex_digits::digits::Hex;
 use std::fmt;

@@ -1,4 +1,4 @@
-// A receiving end with its sink and its ring of events, and what comes of a call.
+//! A receiving end with its sink and its ring of events, and what comes of a call.
 ghost use Rattle.std.specs.Prelude.{◌≡◌};
 ghost use Rattle.receiver.specs.Feed.{events_of, Untouched};
 ghost use Rattle.receiver_vectors.specs.End.{made_end, places_of, Carries};
@@ -10,20 +10,20 @@ use receiver::event::EventRecord;
 use receiver::receiver::Receiver;
 use ring::ring::Ring;
 
-// What a call that was not refused answered.
+/// What a call that was not refused answered.
 #[derive(Clone, Copy)]
 pub enum Answer {
     Made,
-    // the sink took so many cells
+    /// the sink took so many cells
     Taken(u32),
     Reset,
 }
 
-// A receiving end and what it is used with.
+/// A receiving end and what it is used with.
 #[derive(Drop)]
 pub struct End {
     pub receiver: Receiver,
-    // how many places its ring of events has
+    /// how many places its ring of events has
     pub event_places: u32,
     pub sink: SinkKind,
 }
@@ -39,7 +39,7 @@ impl End {
         }
     }
 
-    // How many places the ring of its sink has.
+    /// How many places the ring of its sink has.
     pub fn cell_places(&self) -> u32
         ensures { result ≡ places_of self.now.sink }
     {
@@ -49,7 +49,7 @@ impl End {
         }
     }
 
-    // Carries a call out; a feed hands its cells to this sink.
+    /// Carries a call out; a feed hands its cells to this sink.
     pub fn call<S: Sink>(
         &mut self,
         call: &Call,

@@ -1,5 +1,5 @@
-// Reads calls from standard input, one to a line, carries each out on a receiving end, and writes what came of it: the answer, the
-// cells and the events that it left, and the state.
+//! Reads calls from standard input, one to a line, carries each out on a receiving end, and writes what came of it: the answer, the
+//! cells and the events that it left, and the state.
 #![tactic(auto)]
 
 use calls::{Call, SinkKind};
@@ -9,7 +9,8 @@ use ports::closed::Closed;
 use ports::split::Split;
 use ports::user_cell::UserCell;
 use receiver::event::EventRecord;
-use ring::ring::Ring;
+use receiver::feeding::MOST_CELLS;
+use ring::ring::{MOST_PLACES, Ring};
 use std::io;
 use std::io::{BufRead, BufReader};
 
@@ -17,12 +18,6 @@ mod calls;
 mod display;
 mod end;
 mod number;
-
-// No feed ends more cells than this: 4,096 octets have 77 cells and a part.
-const MOST_CELLS: usize = 78;
-
-// The longest ring of events.
-const MOST_EVENTS: usize = 1024;
 
 fn main(rt: HostRuntime) -> io::Result<()> {
     let heap = rt.alloc();
@@ -41,9 +36,9 @@ fn main(rt: HostRuntime) -> io::Result<()> {
 // Carries a call out with rings that are empty, and empties them.
 fn carry_out(rt: &impl Print, end: &mut End, call: &Call) -> io::Result<()> {
     let mut cell_places = [UserCell::blank(); MOST_CELLS];
-    let mut event_places = [EventRecord::default(); MOST_EVENTS];
+    let mut event_places = [EventRecord::default(); MOST_PLACES];
     let cells = (end.cell_places() as usize).min(MOST_CELLS);
-    let events = (end.event_places as usize).min(MOST_EVENTS);
+    let events = (end.event_places as usize).min(MOST_PLACES);
     let mut cells = Ring::new(&mut cell_places[..cells]);
     let mut events = Ring::new(&mut event_places[..events]);
     // the sinks are of three types

@@ -1,4 +1,4 @@
-// All that can be read of a receiving end but the last F3 payload, in words.
+//! All that can be read of a receiving end but the last F3 payload, in words.
 ghost use Rattle.std.specs.Prelude.{◌≡◌, Some};
 ghost use Rattle.std.specs.Fmt.{WritesOnOk};
 ghost use Rattle.receiver_words.specs.Readings.{readings_of, above_text, counters_text, state_text, below_text, readings_text};
@@ -8,7 +8,7 @@ use receiver::receiver::Receiver;
 use std::fmt;
 use tracker::reading::State;
 
-// What a receiving end counted, and how it stands.
+/// What a receiving end counted, and how it stands.
 #[derive(Clone, Copy, PartialEq, Eq)]
 pub struct Readings {
     pub bits: u64,
@@ -46,7 +46,7 @@ impl Readings {
         )
     }
 
-    // Writes the lines below the bits and the user cells.
+    /// Writes the lines below the bits and the user cells.
     pub fn write_below<W: fmt::Write>(&self, f: &mut fmt::Formatter<W>) -> fmt::Result
         ensures { WritesOnOk W.write_str_gives f.old result (below_text self.now) f.new }
     {

@@ -23,28 +23,12 @@ unfoldable pub places : {X : Type 0} → Ring X → ℕ
 places ring = length ring.slots.now
 
 abbrev pub PushWhy : {X : Type 0} → Ring X → Refusal → Type 0
-PushWhy ring NoOctets = ⊥
-PushWhy ring TooManyOctets = ⊥
-PushWhy ring BadPhase = ⊥
-PushWhy ring WrongLength = ⊥
-PushWhy ring ReservedHeader = ⊥
-PushWhy ring NotServed = ⊥
 PushWhy ring NoSpace = (number_of NoSpace ≡ 7) × (length (held ring) ≡ places ring)
-PushWhy ring NoneWaiting = ⊥
-PushWhy ring BadSampleWord = ⊥
-PushWhy ring NoOnePhase = ⊥
+PushWhy ring _ = ⊥
 
 abbrev pub PopWhy : {X : Type 0} → Ring X → Refusal → Type 0
-PopWhy ring NoOctets = ⊥
-PopWhy ring TooManyOctets = ⊥
-PopWhy ring BadPhase = ⊥
-PopWhy ring WrongLength = ⊥
-PopWhy ring ReservedHeader = ⊥
-PopWhy ring NotServed = ⊥
-PopWhy ring NoSpace = ⊥
 PopWhy ring NoneWaiting = (number_of NoneWaiting ≡ 8) × (held ring ≡ [])
-PopWhy ring BadSampleWord = ⊥
-PopWhy ring NoOnePhase = ⊥
+PopWhy ring _ = ⊥
 
 pub record Pushed {X : Type 0} (ring : Ring X) (x : X) (ring' : Ring X) : Type 0 where
   pub free : length (held ring) < places ring

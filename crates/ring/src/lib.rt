@@ -1,4 +1,4 @@
-// A ring over lent places, for every kind of element.
+//! A ring over lent places, for every kind of element.
 #![tactic(auto)]
 
 pub mod ring;

@@ -27,7 +27,7 @@ bits_above x a b j h k =
     let q : n / 2 ^ 2 ≡ x = omega arith in
     ap (λ (m : ℕ). n / 2 ^ m % 2) e ∙ ap (λ (m : ℕ). m % 2) (sym (shr-shr n 2 j)) ∙ ap (λ (m : ℕ). m / 2 ^ j % 2) q
 
-samples_sum : (c p : ℕ) → samples_of (suc c) p ≡ samples_of c (before p) * 4 + (sample8 p * 2 + sample7 p)
+pub samples_sum : (c p : ℕ) → samples_of (suc c) p ≡ samples_of c (before p) * 4 + (sample8 p * 2 + sample7 p)
 unfolding samples_of
 samples_sum c p =
     xor_assoc (samples_of c (before p) * 2 ^ 2) (sample8 p * 2 ^ 1) (sample7 p)

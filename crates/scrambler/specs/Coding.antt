@@ -68,14 +68,7 @@ RightLengths cell place = (length cell ≡ 52) × (length place ≡ 53)
 abbrev pub CodeWhy : List ℕ → ℕ → List ℕ → Refusal → Type 0
 CodeWhy cell p place WrongLength = (number_of WrongLength ≡ 4) × (RightLengths cell place → ⊥)
 CodeWhy cell p place BadPhase = (number_of BadPhase ≡ 3) × RightLengths cell place × ((p ≡ 0) ⊎ (2 ^ 31 ≤ p))
-CodeWhy cell p place NoOctets = ⊥
-CodeWhy cell p place TooManyOctets = ⊥
-CodeWhy cell p place ReservedHeader = ⊥
-CodeWhy cell p place NotServed = ⊥
-CodeWhy cell p place NoSpace = ⊥
-CodeWhy cell p place NoneWaiting = ⊥
-CodeWhy cell p place BadSampleWord = ⊥
-CodeWhy cell p place NoOnePhase = ⊥
+CodeWhy cell p place _ = ⊥
 
 pub record Codes (cell : List ℕ) (p : ℕ) (place : List ℕ) (place' : List ℕ) : Type 0 where
   pub lengths : RightLengths cell place

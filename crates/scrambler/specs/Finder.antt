@@ -30,16 +30,10 @@ abbrev pub PhaseOf : ℕ → Result ℕ Refusal → Type 0
 PhaseOf w (Ok p) = OnePhase w p
 PhaseOf w (Err BadSampleWord) = (number_of BadSampleWord ≡ 9) × (2 ^ 31 ≤ w)
 PhaseOf w (Err NoOnePhase) = (number_of NoOnePhase ≡ 10) × (w < 2 ^ 31) × ((p : ℕ) → OnePhase w p → ⊥)
-PhaseOf w (Err NoOctets) = ⊥
-PhaseOf w (Err TooManyOctets) = ⊥
-PhaseOf w (Err BadPhase) = ⊥
-PhaseOf w (Err WrongLength) = ⊥
-PhaseOf w (Err ReservedHeader) = ⊥
-PhaseOf w (Err NotServed) = ⊥
-PhaseOf w (Err NoSpace) = ⊥
-PhaseOf w (Err NoneWaiting) = ⊥
+PhaseOf w (Err _) = ⊥
 
--- ---- by rows. Nothing of this need be believed: PhaseOf alone fixes the finder's answer to each word
+-- ---- by rows. The receiving end's rules cite found. That found w meets PhaseOf w for every word w is a part of find_phase's contract, and PhaseOf
+--      alone fixes the answer to each word: so the rows need not be believed
 
 unfoldable pub times_rows : List ℕ → ℕ → ℕ
 times_rows rs w = fold (λ a r. bit_xor (a * 2 % 2 ^ 32) (count_ones (bit_and w r) % 2)) 0 rs

@@ -1,4 +1,4 @@
-// Coding a cell at a phase.
+//! Coding a cell at a phase.
 ghost use Rattle.std.specs.Prelude.{◌≡◌, ◌∷◌, ◌++◌};
 ghost use Rattle.scrambler.specs.Coding.{coded_header, header_octets, coded, decoded, CarriesSamples, CodeAnswer};
 
@@ -11,8 +11,8 @@ use cell::octets::cell_parts;
 use cell::refusal::Refusal;
 use cell::sizes::{CELL_OCTETS, HEADER_OCTETS, LINE_HEADER_OCTETS, LINE_OCTETS, PAYLOAD_OCTETS};
 
-// A header as the line carries it: scrambled, with a check octet that carries two samples of the generator. Of a phase above
-// 2^31 - 1 the low 31 bits count.
+/// A header as the line carries it: scrambled, with a check octet that carries two samples of the generator. Of a phase above
+/// 2^31 - 1 the low 31 bits count.
 #[tactic(auto, using(crate::proofs::Codes::made_carries, crate::proofs::Masks::ago_lt, crate::proofs::Masks::sample7_lt))]
 pub fn code_header(header: Header, phase: u32) -> LineHeader
     ensures value { result ≡ coded_header header.0 phase }
@@ -25,7 +25,7 @@ pub fn code_header(header: Header, phase: u32) -> LineHeader
     }
 }
 
-// The 53 octets of a cell at a phase. Of a phase above 2^31 - 1 the low 31 bits count.
+/// The 53 octets of a cell at a phase. Of a phase above 2^31 - 1 the low 31 bits count.
 #[tactic(auto, using(crate::proofs::Codes::decoded_coded), unfolding(crate::specs::Coding::coded))]
 pub fn code_octets(cell: &[u8; CELL_OCTETS], phase: u32) -> [u8; LINE_OCTETS]
     ensures written { result ≡ coded phase cell.now }
@@ -48,8 +48,8 @@ fn line_octets(header: LineHeader, payload: &[u8; PAYLOAD_OCTETS]) -> [u8; LINE_
     line
 }
 
-// Writes the 53 octets of a cell of 52 octets at a phase. Refuses other lengths, then a phase of 0 or above 2^31 - 1; the
-// place is then as it was.
+/// Writes the 53 octets of a cell of 52 octets at a phase. Refuses other lengths, then a phase of 0 or above 2^31 - 1; the
+/// place is then as it was.
 pub fn code_cell(cell: &[u8], phase: u32, place: &mut [u8]) -> Result<(), Refusal>
     ensures { CodeAnswer cell.now phase place.old result place.new }
 {

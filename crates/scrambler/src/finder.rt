@@ -1,4 +1,4 @@
-// Finding the phase from samples.
+//! Finding the phase from samples.
 ghost use Rattle.std.specs.Prelude.{◌≡◌, ◌^◌, ◌<◌};
 ghost use Rattle.scrambler.specs.Finder.{times_rows, phase_rows, found, OnePhase, PhaseOf};
 
@@ -6,8 +6,8 @@ use crate::generator::LAST_PHASE;
 use crate::sums::picked_sum;
 use cell::refusal::Refusal;
 
-// The one phase with these 31 samples, the first on top, the last being the HEC7 sample of the cell whose phase it is.
-// Refuses a word above 2^31 - 1, and samples that fit no phase or several.
+/// The one phase with these 31 samples, the first on top, the last being the HEC7 sample of the cell whose phase it is.
+/// Refuses a word above 2^31 - 1, and samples that fit no phase or several.
 pub fn find_phase(word: u32) -> Result<u32, Refusal>
     ensures value { result ≡ found word }
     ensures one { PhaseOf word result }

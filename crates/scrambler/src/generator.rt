@@ -1,14 +1,14 @@
-// The generator, by its phase.
+//! The generator, by its phase.
 ghost use Rattle.std.specs.Prelude.{◌≡◌, ◌^◌, ◌<◌, ◌≤◌};
 ghost use Rattle.scrambler.specs.Generator.{Steps, next_phase, PhaseAnswer};
 ghost use Rattle.scrambler.specs.Sequence.{SequenceLaws};
 
 use cell::refusal::Refusal;
 
-// The largest phase: a phase has 31 bits. It is no type of its own, since the calls that take one take any word.
+/// The largest phase: a phase has 31 bits. It is no type of its own, since the calls that take one take any word.
 pub const LAST_PHASE: u32 = 0x7fff_ffff;
 
-// Refuses what no cell is coded at: a phase of 0 or above 2^31 - 1.
+/// Refuses what no cell is coded at: a phase of 0 or above 2^31 - 1.
 pub fn check_phase(phase: u32) -> Result<(), Refusal>
     ensures { PhaseAnswer phase result }
 {
@@ -18,7 +18,7 @@ pub fn check_phase(phase: u32) -> Result<(), Refusal>
     Ok(())
 }
 
-// The phase of the next cell, 424 steps on: 15 times 28, and 4. Of a word above 2^31 - 1 the low 31 bits count.
+/// The phase of the next cell, 424 steps on: 15 times 28, and 4. Of a word above 2^31 - 1 the low 31 bits count.
 pub fn next_phase(phase: u32) -> u32
     ensures value { result ≡ next_phase phase }
     ensures small { result < 2 ^ 31 }
@@ -42,8 +42,8 @@ pub(crate) fn steps_on(phase: u32, count: u32) -> u32
     ((phase << count) & LAST_PHASE) ^ new
 }
 
-// Steps, bits, octets and masks of a phase are those of any sequence of bits that obeys the recurrence: this call does nothing,
-// and its contract is the proof of that.
+/// Steps, bits, octets and masks of a phase are those of any sequence of bits that obeys the recurrence: this call does nothing,
+/// and its contract is the proof of that.
 pub fn generator_laws_hold()
     ensures { SequenceLaws }
 {}

@@ -1,4 +1,4 @@
-// The distributed sample scrambler: its generator, coding a cell at a phase, and finding the phase from samples.
+//! The distributed sample scrambler: its generator, coding a cell at a phase, and finding the phase from samples.
 #![tactic(auto)]
 
 pub mod coding;

@@ -1,4 +1,4 @@
-// Scrambling and descrambling a payload: both are the same exclusive or.
+//! Scrambling and descrambling a payload: both are the same exclusive or.
 ghost use Rattle.std.specs.Prelude.{◌≡◌, ◌%◌, ◌^◌, bit_xor};
 ghost use Rattle.scrambler.specs.Coding.{masked};
 ghost use Rattle.scrambler.specs.Generator.{Steps};
@@ -6,7 +6,7 @@ ghost use Rattle.scrambler.specs.Generator.{Steps};
 use crate::generator::steps_on;
 use cell::sizes::PAYLOAD_OCTETS;
 
-// Xors payload bit k with U(t + 8 + k). Of a phase above 2^31 - 1 the low 31 bits count.
+/// Xors payload bit k with U(t + 8 + k). Of a phase above 2^31 - 1 the low 31 bits count.
 pub fn mask_payload(phase: u32, payload: &mut [u8; PAYLOAD_OCTETS])
     ensures { payload.new ≡ masked 8 phase payload.old }
 {

@@ -1,4 +1,4 @@
-// Sums of bits, as the generator makes them: each is zero or one.
+//! Sums of bits, as the generator makes them: each is zero or one.
 ghost use Rattle.std.specs.Prelude.{◌≡◌, ◌%◌, bit_and, count_ones};
 ghost use Rattle.std.specs.Int.{from_bool};
 

@@ -1,5 +1,5 @@
-// Reads a block from standard input and writes the cells that carry it, as the octets of a line, to standard output: a lead of
-// cells without users, the cells of the block, and 8 cells more. A summary goes to standard error.
+//! Reads a block from standard input and writes the cells that carry it, as the octets of a line, to standard output: a lead of
+//! cells without users, the cells of the block, and 8 cells more. A summary goes to standard error.
 #![tactic(auto)]
 
 use anyhow::anyhow;

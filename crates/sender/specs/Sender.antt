@@ -84,15 +84,7 @@ advanced s = record { phase = next_phase s.phase; number = (s.number + 1) % 432;
 
 abbrev pub StartWhy : ℕ → Refusal → Type 0
 StartWhy p BadPhase = (number_of BadPhase ≡ 3) × ((p ≡ 0) ⊎ (2 ^ 31 ≤ p))
-StartWhy p WrongLength = ⊥
-StartWhy p NoOctets = ⊥
-StartWhy p TooManyOctets = ⊥
-StartWhy p ReservedHeader = ⊥
-StartWhy p NotServed = ⊥
-StartWhy p NoSpace = ⊥
-StartWhy p NoneWaiting = ⊥
-StartWhy p BadSampleWord = ⊥
-StartWhy p NoOnePhase = ⊥
+StartWhy p _ = ⊥
 
 abbrev pub StartAnswer : {X : Type 0} → SenderState → ℕ → Result X Refusal → SenderState → Type 0
 StartAnswer s p r s' = MatchResult r (λ _. (0 < p) × (p < 2 ^ 31) × (s' ≡ started s p)) (λ e. StartWhy p e × (s' ≡ s))
@@ -109,15 +101,7 @@ KindWhy s cells User = (kind_number User ≡ 2) × (s.number ≢ 0) × (cells �
 
 abbrev pub SendWhy : List ℕ → Refusal → Type 0
 SendWhy place WrongLength = (number_of WrongLength ≡ 4) × (length place ≢ 53)
-SendWhy place BadPhase = ⊥
-SendWhy place NoOctets = ⊥
-SendWhy place TooManyOctets = ⊥
-SendWhy place ReservedHeader = ⊥
-SendWhy place NotServed = ⊥
-SendWhy place NoSpace = ⊥
-SendWhy place NoneWaiting = ⊥
-SendWhy place BadSampleWord = ⊥
-SendWhy place NoOnePhase = ⊥
+SendWhy place _ = ⊥
 
 -- one cell goes out: s and cells before it, the kind and the 53 octets, s' and cells' after it
 pub record Sends (s : SenderState) (cells : List Cell) (kind : Kind) (line : List ℕ) (s' : SenderState) (cells' : List Cell) : Type 0 where
@@ -146,15 +130,7 @@ with_f3 s f = record { phase = s.phase; number = s.number; f3 = f }
 
 abbrev pub F3Why : List ℕ → Refusal → Type 0
 F3Why f WrongLength = (number_of WrongLength ≡ 4) × (length f ≢ 48)
-F3Why f BadPhase = ⊥
-F3Why f NoOctets = ⊥
-F3Why f TooManyOctets = ⊥
-F3Why f ReservedHeader = ⊥
-F3Why f NotServed = ⊥
-F3Why f NoSpace = ⊥
-F3Why f NoneWaiting = ⊥
-F3Why f BadSampleWord = ⊥
-F3Why f NoOnePhase = ⊥
+F3Why f _ = ⊥
 
 abbrev pub F3Answer : {X : Type 0} → SenderState → List ℕ → Result X Refusal → SenderState → Type 0
 F3Answer s f r s' = MatchResult r (λ _. Octets 48 f × (s' ≡ with_f3 s f)) (λ e. F3Why f e × (s' ≡ s))

@@ -1,4 +1,4 @@
-// The sending end: which cell goes out, at which phase, and what a sent stream is.
+//! The sending end: which cell goes out, at which phase, and what a sent stream is.
 #![tactic(auto)]
 
 pub mod sender;

@@ -1,4 +1,4 @@
-// The sending end: which cell goes out, and at which phase.
+//! The sending end: which cell goes out, and at which phase.
 ghost use Rattle.std.specs.Prelude.{◌≡◌, drop};
 ghost use Rattle.ports.specs.Cell.{octets};
 ghost use Rattle.scrambler.specs.Coding.{coded};
@@ -21,7 +21,7 @@ const F3_PERIOD: u16 = 432;
 // Each octet of an idle cell's payload, and of an F3 cell's until another is set.
 const FILL: u8 = 0x6a;
 
-// A sending end. Its phase is never 0, so what it sends is always scrambled. It cannot be copied, so that each has one history.
+/// A sending end. Its phase is never 0, so what it sends is always scrambled. It cannot be copied, so that each has one history.
 #[derive(Drop)]
 pub struct Sender {
     // the phase of the next cell
@@ -43,7 +43,7 @@ impl Model for Sender {
 }
 
 impl Sender {
-    // A sender at phase 1, before its first cell.
+    /// A sender at phase 1, before its first cell.
     pub fn new() -> Sender
         ensures { result ≡ fresh }
     {
@@ -54,7 +54,7 @@ impl Sender {
         }
     }
 
-    // Starts again at another phase, before its first cell. Refuses a phase of 0 or above 2^31 - 1.
+    /// Starts again at another phase, before its first cell. Refuses a phase of 0 or above 2^31 - 1.
     pub fn start(&mut self, phase: u32) -> Result<(), Refusal>
         ensures { StartAnswer self.old phase result self.new }
     {
@@ -64,7 +64,7 @@ impl Sender {
         Ok(())
     }
 
-    // Sets the payload of the F3 cells that go out from now on. Refuses a payload not of 48 octets.
+    /// Sets the payload of the F3 cells that go out from now on. Refuses a payload not of 48 octets.
     #[tactic(auto, using(crate::proofs::Octets::all_octets))]
     pub fn set_f3(&mut self, payload: &[u8]) -> Result<(), Refusal>
         ensures { F3Answer self.old payload.now result self.new }
@@ -73,8 +73,8 @@ impl Sender {
         Ok(())
     }
 
-    // Writes the 53 octets of the next cell, and answers its kind: every 432nd is an F3 cell; any other is the user cell that waits
-    // first in the source, which is then taken from it, or an idle cell where none waits. Refuses a place not of 53 octets.
+    /// Writes the 53 octets of the next cell, and answers its kind: every 432nd is an F3 cell; any other is the user cell that waits
+    /// first in the source, which is then taken from it, or an idle cell where none waits. Refuses a place not of 53 octets.
     pub fn send<S: Source>(&mut self, source: &mut S, place: &mut [u8]) -> Result<Kind, Refusal>
         ensures answer { SendAnswer self.old (S.Source.waiting source.old) place.old result self.new (S.Source.waiting source.new) place.new }
         ensures source { SourceAnswer result source.old source.new }
@@ -85,7 +85,7 @@ impl Sender {
         Ok(kind)
     }
 
-    // The same without a place: the kind of the next cell, and its 53 octets.
+    /// The same without a place: the kind of the next cell, and its 53 octets.
     pub fn send_next<S: Source>(&mut self, source: &mut S) -> (Kind, [u8; LINE_OCTETS])
         ensures sends { Sends self.old (S.Source.waiting source.old) result.0 result.1 self.new (S.Source.waiting source.new) }
         ensures source { NotAsked result.0 source.old source.new }

@@ -1,4 +1,4 @@
-// Reading lines of text: their words, and the numbers that words spell.
+//! Reading lines of text: their words, and the numbers that words spell.
 #![tactic(auto)]
 
 pub mod number;

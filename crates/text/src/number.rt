@@ -1,8 +1,8 @@
-// Numbers as words spell them.
+//! Numbers as words spell them.
 ghost use Rattle.std.specs.Prelude.{◌≡◌};
 ghost use Rattle.text.specs.Number.{base_of, pushed, value_from, value_of, number_of};
 
-// The number below 2^32 that a text spells: in decimal digits, or behind 0x in hexadecimal ones. None where it spells none.
+/// The number below 2^32 that a text spells: in decimal digits, or behind 0x in hexadecimal ones. None where it spells none.
 pub fn read(text: &[u8]) -> Option<u32>
     ensures { result ≡ number_of text.now }
 {

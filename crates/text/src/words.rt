@@ -1,8 +1,8 @@
-// The words of a line, a blank between each two.
+//! The words of a line, a blank between each two.
 ghost use Rattle.std.specs.Prelude.{◌≡◌, position};
 ghost use Rattle.text.specs.Words.{is_blank, first_word, other_words, one_word};
 
-// The first word of a text.
+/// The first word of a text.
 pub fn first(text: &[u8]) -> &[u8]
     ensures { result.now ≡ first_word text.now }
 {
@@ -10,7 +10,7 @@ pub fn first(text: &[u8]) -> &[u8]
     word
 }
 
-// The words behind the first one and its blank.
+/// The words behind the first one and its blank.
 pub fn others(text: &[u8]) -> &[u8]
     ensures { result.now ≡ other_words text.now }
 {
@@ -18,7 +18,7 @@ pub fn others(text: &[u8]) -> &[u8]
     words
 }
 
-// A text is one word: no blank stands in it.
+/// A text is one word: no blank stands in it.
 pub fn is_one(text: &[u8]) -> bool
     ensures { result ≡ one_word text.now }
 {

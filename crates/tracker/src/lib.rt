@@ -1,4 +1,4 @@
-// What tracks the line, bit by bit: the cell boundary, the descrambler's phase, mending, and the cell that is coming in. It knows no sink.
+//! What tracks the line, bit by bit: the cell boundary, the descrambler's phase, mending, and the cell that is coming in. It knows no sink.
 #![tactic(auto)]
 
 mod display;

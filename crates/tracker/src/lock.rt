@@ -1,4 +1,4 @@
-// The state after a header and the events on it, decided together.
+//! The state after a header and the events on it, decided together.
 ghost use Rattle.std.specs.Prelude.{◌≡◌, Some};
 ghost use Rattle.tracker.specs.Deciding.{at_header, hunt_from};
 ghost use Rattle.tracker.specs.Events.{decided};

@@ -1,17 +1,17 @@
-// What can be read of a tracker's state.
+//! What can be read of a tracker's state.
 ghost use Rattle.std.specs.Prelude.{◌≡◌};
 ghost use Rattle.tracker.specs.Reading.{boundary_of, state_of};
 
 use crate::state::{Delineation, Descrambler, Mode, Place};
 use crate::tracker::Tracker;
 
-// The cell boundary: hunted for, or assumed. No Option of a Delineation: HUNT is a state that has a name, and is printed by it.
+/// The cell boundary: hunted for, or assumed. No Option of a Delineation: HUNT is a state that has a name, and is printed by it.
 #[derive(Clone, Copy, Debug, PartialEq, Eq, Hash)]
 pub enum Boundary {
     Hunt,
-    // with the agreeing headers since the one that ended the hunt
+    /// with the agreeing headers since the one that ended the hunt
     Presync(u8),
-    // with the wrong headers in a row
+    /// with the wrong headers in a row
     Sync(u8),
 }
 
@@ -26,7 +26,7 @@ impl From<Delineation> for Boundary {
     }
 }
 
-// The state that headers lead to. In HUNT the descrambler is in Acquisition with confidence 0.
+/// The state that headers lead to. In HUNT the descrambler is in Acquisition with confidence 0.
 #[derive(Clone, Copy, Debug, PartialEq, Eq, Hash)]
 pub struct State {
     pub boundary: Boundary,
@@ -35,7 +35,7 @@ pub struct State {
 }
 
 impl Tracker {
-    // The state between two headers.
+    /// The state between two headers.
     pub fn state(&self) -> State
         ensures { result ≡ state_of self.now }
     {

@@ -1,4 +1,4 @@
-// The rules at a header, layer by layer: what the descrambler, mending and the boundary each come to, with the event on the way.
+//! The rules at a header, layer by layer: what the descrambler, mending and the boundary each come to, with the event on the way.
 ghost use Rattle.std.specs.Prelude.{◌≡◌, true, Some};
 ghost use Rattle.tracker.specs.Deciding.{at_next_cell, verdict_in};
 ghost use Rattle.tracker.specs.Events.{cause_of, boundary_event, descrambler_event};
@@ -44,7 +44,11 @@ pub(crate) fn acquire(confidence: u8, samples: u32) -> (Descrambler, Option<Desc
 }
 
 // Verification after a header that agrees.
-pub(crate) fn verify(as_predicted: bool, confidence: u8, phase: u32) -> (Descrambler, Option<DescramblerCause>)
+pub(crate) fn verify(
+    as_predicted: bool,
+    confidence: u8,
+    phase: u32,
+) -> (Descrambler, Option<DescramblerCause>)
     ensures next { result.0 ≡ verify true as_predicted confidence phase }
     ensures event { result.1 ≡ descrambler_event (Descrambler.Verification confidence phase) (verify true as_predicted confidence phase) }
 {
@@ -66,7 +70,11 @@ pub(crate) fn verify(as_predicted: bool, confidence: u8, phase: u32) -> (Descram
 }
 
 // Steady after a header: only wrong samples lower the confidence.
-pub(crate) fn hold(syndrome: u8, confidence: u8, phase: u32) -> (Descrambler, Option<DescramblerCause>)
+pub(crate) fn hold(
+    syndrome: u8,
+    confidence: u8,
+    phase: u32,
+) -> (Descrambler, Option<DescramblerCause>)
     ensures next { result.0 ≡ hold (sample_fault syndrome) confidence phase }
     ensures event { result.1 ≡ descrambler_event (Descrambler.Steady confidence phase) (hold (sample_fault syndrome) confidence phase) }
 {

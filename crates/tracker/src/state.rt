@@ -1,27 +1,27 @@
-// The states of the receiving end between two bits.
+//! The states of the receiving end between two bits.
 ghost use Rattle.std.specs.Prelude.{◌≡◌};
 ghost use Rattle.tracker.specs.Rules.{phase_of};
 
 use crate::events::HeaderEvents;
 use cell::header::Header;
 
-// In correction mode a header with one wrong bit is mended; in detection mode none is.
+/// In correction mode a header with one wrong bit is mended; in detection mode none is.
 #[derive(Clone, Copy, Debug, PartialEq, Eq, Hash)]
 pub enum Mode {
     Correction,
     Detection,
 }
 
-// How sure the cell boundary is, once a hunt has ended.
+/// How sure the cell boundary is, once a hunt has ended.
 #[derive(Clone, Copy, Debug, PartialEq, Eq, Hash)]
 pub enum Delineation {
-    // with the agreeing headers since the one that ended the hunt
+    /// with the agreeing headers since the one that ended the hunt
     Presync(u8),
-    // with the wrong headers in a row
+    /// with the wrong headers in a row
     Sync(u8),
 }
 
-// How sure the descrambler's phase is: the confidence and, once found, the phase of the cell whose header came last.
+/// How sure the descrambler's phase is: the confidence and, once found, the phase of the cell whose header came last.
 #[derive(Clone, Copy, Debug, PartialEq, Eq, Hash)]
 pub enum Descrambler {
     Acquisition(u8),
@@ -41,7 +41,7 @@ impl Descrambler {
     }
 }
 
-// All that is known while a boundary is assumed, with the samples of the last sixteen headers, the newest below.
+/// All that is known while a boundary is assumed, with the samples of the last sixteen headers, the newest below.
 #[derive(Clone, Copy, Debug, PartialEq, Eq, Hash)]
 pub struct Lock {
     pub delineation: Delineation,
@@ -57,10 +57,10 @@ pub(crate) const LAST_OCTET: u8 = 47;
 
 pub(crate) const LAST_HEADER_BIT: u8 = 39;
 
-// Where the next bit falls, the commonest place first, so that it is asked for first. HUNT is a state that has a name, so it is no None.
+/// Where the next bit falls, the commonest place first, so that it is asked for first. HUNT is a state that has a name, so it is no None.
 #[derive(Clone, Copy, Debug, PartialEq, Eq, Hash)]
 pub enum Place {
-    // into a payload
+    /// into a payload
     Payload {
         // after this one
         octets: u8,
@@ -70,24 +70,24 @@ pub enum Place {
         kept: Option<Header>,
         lock: Lock,
     },
-    // into a header
+    /// into a header
     Header {
         // after this one
         bits: u8,
         lock: Lock,
     },
-    // the boundary is hunted for
+    /// the boundary is hunted for
     Hunt,
 }
 
-// The state that a header changes. The mode outlives the boundary.
+/// The state that a header changes. The mode outlives the boundary.
 #[derive(Clone, Copy, Debug, PartialEq, Eq, Hash)]
 pub struct Control {
     pub mode: Mode,
     pub place: Place,
 }
 
-// What a header leads to: the state after it, and the events on it.
+/// What a header leads to: the state after it, and the events on it.
 #[derive(Clone, Copy, Debug)]
 pub struct Headed {
     pub control: Control,

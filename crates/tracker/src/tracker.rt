@@ -1,4 +1,4 @@
-// The line, bit by bit.
+//! The line, bit by bit.
 ghost use Rattle.std.specs.Prelude.{◌≡◌};
 ghost use Rattle.tracker.specs.Tracker.{bit_step, bit_brings, moved, brings_at, start};
 
@@ -9,7 +9,7 @@ use cell::header::Header;
 use cell::sizes::PAYLOAD_OCTETS;
 use scrambler::payload::mask_payload;
 
-// The receiving end as far as it depends on the line's bits alone. It cannot be copied: there is no other way to one than its bits.
+/// The receiving end as far as it depends on the line's bits alone. It cannot be copied: there is no other way to one than its bits.
 #[derive(Debug, Drop)]
 pub struct Tracker {
     window: Window,
@@ -18,11 +18,11 @@ pub struct Tracker {
     payload: [u8; PAYLOAD_OCTETS],
 }
 
-// What the last bit of a header or of a cell brings.
+/// What the last bit of a header or of a cell brings.
 #[derive(Clone, Copy, Debug, PartialEq, Eq, Hash)]
 pub enum Moment {
     Header(HeaderEvents),
-    // the cell is kept, and has this header
+    /// the cell is kept, and has this header
     Cell(Header),
 }
 
@@ -35,7 +35,7 @@ impl Default for Tracker {
 }
 
 impl Tracker {
-    // A tracker that has seen no bit.
+    /// A tracker that has seen no bit.
     pub fn new() -> Tracker
         ensures { result ≡ start }
     {
@@ -49,7 +49,7 @@ impl Tracker {
         }
     }
 
-    // Forgets all bits.
+    /// Forgets all bits.
     pub fn reset(&mut self)
         ensures { self.new ≡ start }
     {
@@ -63,14 +63,14 @@ impl Tracker {
         self.control
     }
 
-    // The payload of the cell that is coming in; after its last bit, descrambled if the cell is kept.
+    /// The payload of the cell that is coming in; after its last bit, descrambled if the cell is kept.
     pub fn payload(&self) -> &[u8; PAYLOAD_OCTETS]
         ensures { result.now ≡ self.now.payload }
     {
         &self.payload
     }
 
-    // Takes one bit of the line, and tells what it brought.
+    /// Takes one bit of the line, and tells what it brought.
     pub fn push_bit(&mut self, bit: bool) -> Option<Moment>
         ensures next { self.new ≡ bit_step self.old bit }
         ensures brings { result ≡ bit_brings self.old bit }

@@ -1,4 +1,4 @@
-// The last 40 bits of the line, read as a header.
+//! The last 40 bits of the line, read as a header.
 ghost use Rattle.std.specs.Prelude.{◌≡◌, ◌%◌, ◌^◌, ◌<◌, ◌==◌};
 ghost use Rattle.cell.specs.LineHeader.{of_bits};
 ghost use Rattle.tracker.specs.Window.{syndrome_in, agrees, samples_in, predicted, freed, sample_fault, header_in, mended_in, pushed};

@@ -1,4 +1,4 @@
-// Runs a sending and a receiving end over a line with damage, as the commands on standard input say, and prints what went up.
+//! Runs a sending and a receiving end over a line with damage, as the commands on standard input say, and prints what went up.
 #![tactic(auto)]
 
 use damaged_line::command::Command;
@@ -6,13 +6,10 @@ use damaged_line::outcome::Outcome;
 use damaged_line::tally::Tally;
 use damaged_line::trial::Trial;
 use receiver::event::EventRecord;
-use ring::ring::Ring;
+use ring::ring::{MOST_PLACES, Ring};
 use std::io;
 use std::io::{BufRead, BufReader};
 use std::num::Saturating;
-
-// Events of one command behind these are lost, and counted.
-const EVENT_PLACES: usize = 1024;
 
 fn main(rt: HostRuntime) -> anyhow::Result<()> {
     run(&rt)
@@ -44,7 +41,8 @@ fn carry_out(
     command: Command,
     total: &mut Tally,
 ) -> anyhow::Result<()> {
-    let mut places = [EventRecord::default(); EVENT_PLACES];
+    // events of one command behind these are lost, and counted
+    let mut places = [EventRecord::default(); MOST_PLACES];
     let mut events = Ring::new(&mut places);
     let outcome = trial.carry_out(command, &mut events)?;
     if let Outcome::Went(counts) = outcome {

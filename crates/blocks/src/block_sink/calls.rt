@@ -1,4 +1,4 @@
-// Making a block sink, and putting payloads into it.
+//! Making a block sink, and putting payloads into it.
 ghost use Rattle.std.specs.Prelude.{◌≡◌, ◌+◌, ◌*◌, ◌/◌, ◌<◌, ◌≤◌, min, length, take};
 ghost use Rattle.blocks.specs.BlockSink.{sink_state, block_state, block_bounded, Stores};
 ghost use Rattle.std.proofs.Math.Seq.{paste};
@@ -12,7 +12,7 @@ use ports::checks::user_payload;
 use ports::sink::Sink;
 
 impl<'a> BlockSink<'a> {
-    // An empty sink over every whole payload place of a block, up to the first 1,365. Under a reserved header it accepts nothing.
+    /// An empty sink over every whole payload place of a block, up to the first 1,365. Under a reserved header it accepts nothing.
     #[tactic(auto, using(crate::proofs::Cuts::taking))]
     pub fn new(header: Header, block: &'a mut [u8]) -> BlockSink<'a>
         ensures state { block_state result ≡ sink_state header.0 (take 65520 block.old) 0 }

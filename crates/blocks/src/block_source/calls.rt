@@ -1,4 +1,4 @@
-// Making a block source, and taking its cells.
+//! Making a block source, and taking its cells.
 ghost use Rattle.std.specs.Prelude.{◌≡◌, min, drop, if◌then◌else◌};
 ghost use Rattle.cell.specs.Header.{reserved};
 ghost use Rattle.blocks.specs.Block.{payload_at};
@@ -13,7 +13,7 @@ use ports::checks::check_place;
 use ports::source::{CountedSource, Source};
 
 impl<'a> BlockSource<'a> {
-    // The payloads of a block, at most of its first 65,536 octets, the last filled with zeros. Under a reserved header there are none.
+    /// The payloads of a block, at most of its first 65,536 octets, the last filled with zeros. Under a reserved header there are none.
     #[tactic(auto, using(crate::proofs::Cuts::cut))]
     pub fn new(header: Header, block: &'a [u8]) -> BlockSource<'a>
         ensures { block_cells result ≡ source_of header.0 block.now }

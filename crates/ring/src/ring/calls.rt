@@ -1,4 +1,4 @@
-// Making a ring, and what goes in and out of it.
+//! Making a ring, and what goes in and out of it.
 ghost use Rattle.std.specs.Prelude.{◌≡◌, min, [], length, take};
 ghost use Rattle.ring.specs.Ring.{held, places, Pushes, Shows, Pops};
 
@@ -7,7 +7,7 @@ use super::{MOST_PLACES, Ring};
 use cell::refusal::Refusal;
 
 impl<'a, T: Copy> Ring<'a, T> {
-    // An empty ring in the places lent, or in the first 1,024 of them where there are more.
+    /// An empty ring in the places lent, or in the first 1,024 of them where there are more.
     #[tactic(auto, using(crate::proofs::Windows::making))]
     pub fn new(slots: &'a mut [T]) -> Ring<'a, T>
         ensures empty { held result ≡ [] }
@@ -22,7 +22,7 @@ impl<'a, T: Copy> Ring<'a, T> {
         }
     }
 
-    // Puts an element behind all others. Refused while no place is free.
+    /// Puts an element behind all others. Refused while no place is free.
     pub fn push(&mut self, x: T) -> Result<(), Refusal>
         ensures { Pushes self.old x result self.new }
     {
@@ -35,7 +35,7 @@ impl<'a, T: Copy> Ring<'a, T> {
         Ok(())
     }
 
-    // The oldest element. Refused while none is held.
+    /// The oldest element. Refused while none is held.
     #[tactic(auto, using(crate::proofs::Windows::looking))]
     pub fn front(&self) -> Result<T, Refusal>
         ensures { Shows self.now result }
@@ -46,7 +46,7 @@ impl<'a, T: Copy> Ring<'a, T> {
         Ok(self.slots[self.first])
     }
 
-    // Takes the oldest element out. Refused while none is held.
+    /// Takes the oldest element out. Refused while none is held.
     pub fn pop(&mut self) -> Result<T, Refusal>
         ensures { Pops self.old result self.new }
     {

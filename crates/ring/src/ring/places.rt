@@ -1,4 +1,4 @@
-// How many elements a ring holds, how many it can hold, and which place comes next.
+//! How many elements a ring holds, how many it can hold, and which place comes next.
 #![tactic(auto, using(crate::proofs::Windows::counting))]
 
 ghost use Rattle.std.specs.Prelude.{◌≡◌, ◌+◌, ◌<◌, ◌≤◌, ◌↔◌, [], length, IsTrue};
@@ -8,7 +8,7 @@ ghost use Rattle.ring.specs.Window.{around};
 use super::Ring;
 
 impl<'a, T: Copy> Ring<'a, T> {
-    // How many elements are held. The bound is said here too, for callers, who see no field.
+    /// How many elements are held. The bound is said here too, for callers, who see no field.
     pub fn len(&self) -> usize
         ensures value { result ≡ length (held self.now) }
         ensures small { result ≤ 1024 }
@@ -16,7 +16,7 @@ impl<'a, T: Copy> Ring<'a, T> {
         self.count
     }
 
-    // How many elements it can hold.
+    /// How many elements it can hold.
     pub fn places(&self) -> usize
         ensures value { result ≡ places self.now }
         ensures small { result ≤ 1024 }
@@ -30,7 +30,7 @@ impl<'a, T: Copy> Ring<'a, T> {
         self.len() == 0
     }
 
-    // No place is free.
+    /// No place is free.
     pub fn is_full(&self) -> bool
         ensures { IsTrue result ↔ (length (held self.now) ≡ places self.now) }
     {

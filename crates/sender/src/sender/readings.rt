@@ -1,11 +1,11 @@
-// What a sender tells of itself.
+//! What a sender tells of itself.
 ghost use Rattle.std.specs.Prelude.{◌≡◌};
 ghost use Rattle.sender.specs.Sender.{IsRunning};
 
 use super::Sender;
 
 impl Sender {
-    // The phase of the next cell.
+    /// The phase of the next cell.
     pub fn phase(&self) -> u32
         ensures value { result ≡ self.now.phase }
         ensures running { IsRunning self.now }
@@ -13,7 +13,7 @@ impl Sender {
         self.phase
     }
 
-    // The number of the next cell since the start, by its remainder at 432.
+    /// The number of the next cell since the start, by its remainder at 432.
     pub fn number(&self) -> u16
         ensures value { result ≡ self.now.number }
         ensures running { IsRunning self.now }

@@ -1,0 +1,76 @@
+//! Passing on: what comes in on the line is fed, and all that it brings is written out.
+ghost use Rattle.std.specs.Prelude.{◌≡◌};
+ghost use Rattle.incoming_line.specs.Passing.{PassAnswer};
+ghost use Rattle.incoming_line.specs.declared.passing.PassError.TheVariants.{Refused, Unwritten};
+
+use crate::arguments::Arguments;
+use crate::line::Line;
+use crate::output::{list_events, write_cells};
+use cell::refusal::Refusal;
+use ports::user_cell::UserCell;
+use receiver::event::EventRecord;
+use receiver::feeding::MOST_CELLS;
+use ring::ring::{MOST_PLACES, Ring};
+use std::error::Error;
+use std::io::Write;
+use std::{fmt, io};
+
+/// Why what came is not passed on.
+#[derive(Debug, Drop)]
+pub enum PassError {
+    /// the receiving end refuses the octets
+    Refused(Refusal),
+    /// what they brought cannot be written
+    Unwritten(io::Error),
+}
+
+impl From<Refusal> for PassError {
+    ghost from_gives = { λ refusal error. error ≡ Refused refusal };
+
+    fn from(refusal: Refusal) -> PassError {
+        PassError::Refused(refusal)
+    }
+}
+
+impl From<io::Error> for PassError {
+    ghost from_gives = { λ cause error. error ≡ Unwritten cause };
+
+    fn from(cause: io::Error) -> PassError {
+        PassError::Unwritten(cause)
+    }
+}
+
+impl fmt::Display for PassError {
+    fn fmt<W: fmt::Write>(&self, f: &mut fmt::Formatter<W>) -> fmt::Result {
+        match self {
+            PassError::Refused(refusal) => write!(f, "{refusal}"),
+            PassError::Unwritten(cause) => write!(f, "{cause}"),
+        }
+    }
+}
+
+impl Error for PassError {}
+
+impl Line {
+    /// Feeds octets, and writes out all that they bring: the cells to one writer, and the events, if they are asked for, to the other.
+    /// Refuses no octets, and more than 4,096, and then nothing changes.
+    pub fn pass_on<W: Write, L: Write>(
+        &mut self,
+        octets: &[u8],
+        arguments: Arguments,
+        out: &mut W,
+        listing: &mut L,
+    ) -> Result<(), PassError>
+        ensures { PassAnswer arguments octets.now self.old (W.contents out.old) (L.contents listing.old) result self.new (W.contents out.new) (L.contents listing.new) }
+    {
+        // a feed ends no more cells than these, and brings at most 546 events: nothing is lost
+        let mut cell_places = [UserCell::blank(); MOST_CELLS];
+        let mut event_places = [EventRecord::default(); MOST_PLACES];
+        let mut cells = Ring::new(&mut cell_places);
+        let mut events = Ring::new(&mut event_places);
+        self.feed(octets, &mut cells, &mut events)?;
+        write_cells(&mut cells, arguments.payloads, out)?;
+        list_events(&mut events, arguments.events, listing)?;
+        Ok(())
+    }
+}

@@ -1,5 +1,5 @@
 -- The cells that a block is cut into.
-use Rattle.std.proofs.Common.{◌≡◌, ℕ, zero, suc, ◌+◌, ◌-◌, ◌*◌, ◌/◌, ◌<◌, ◌≤◌, min, Bool, true, false, cond, leb, List, [], ◌∷◌, ◌++◌, map, length, take, drop, get_or, replicate, sym, refl, ap, ◌∙◌, subst, ap₂, arith, leb-true, leb-false, length-drop, length-take}
+use Rattle.std.proofs.Common.{◌≡◌, ℕ, zero, suc, ◌+◌, ◌-◌, ◌*◌, ◌/◌, ◌<◌, ◌≤◌, min, Bool, true, false, cond, leb, ltb, ltb-false, List, [], ◌∷◌, ◌++◌, map, length, take, drop, get_or, replicate, sym, refl, ap, ◌∙◌, subst, ap₂, arith, leb-true, leb-false, length-drop, length-take}
 use Rattle.std.specs.List.{range_with_len}
 use Rattle.ring.proofs.Cut.{take_min}
 use Rattle.std.proofs.lemmas.List.{get_or-append-add, get_or_append_left, get_or-drop, get_or_past, get_or-replicate, get_or-take, length-append, length-replicate, drop_all, take_all}
@@ -7,7 +7,7 @@ use Rattle.std.proofs.lemmas.List.FromFn.{fill_by_all, length-map-range_with_len
 use Rattle.cell.specs.Header.{reserved}
 use Rattle.ports.specs.Cell.{Cell}
 use Rattle.ports.specs.Source.{Taken}
-use Rattle.blocks.specs.Block.{payload_at, payload_count, cells_of}
+use Rattle.blocks.specs.Block.{octet_at, payload_at, payload_count, cells_of}
 use Rattle.blocks.specs.BlockSource.{source_of}
 
 same_at : {X : Type 0} (f g : ℕ → X) (a n : ℕ) → ((k : ℕ) → f k ≡ g k) → map f (range_with_len a n) ≡ map g (range_with_len a n)
@@ -18,11 +18,27 @@ one_on : {X : Type 0} (f g : ℕ → X) (a n : ℕ) → ((k : ℕ) → f (k + 1)
 one_on f g a zero h = refl
 one_on f g a (suc n) h = ap₂ ◌∷◌ (h a) (one_on f g (a + 1) n h)
 
-payload_on : (block : List ℕ) (k : ℕ) → payload_at block (k + 1) ≡ payload_at (drop 48 block) k
+-- behind the end of a block both are zero
+octet_is : (block : List ℕ) (n : ℕ) → octet_at block n ≡ get_or block n 0
+octet_is block n = go (ltb n (length block)) refl
+  where
+    go : (b : Bool) → ltb n (length block) ≡ b → cond b (get_or block n 0) 0 ≡ get_or block n 0
+    go true t = refl
+    go false t = sym (get_or_past block n 0 (ltb-false _ _ t))
+
+abbrev octets_at : List ℕ → ℕ → List ℕ
+octets_at block i = map (λ k. get_or block (48 * i + k) 0) (range_with_len 0 48)
+
+payload_is : (block : List ℕ) (i : ℕ) → payload_at block i ≡ octets_at block i
 unfolding payload_at
+payload_is block i = same_at (λ k. octet_at block (48 * i + k)) (λ k. get_or block (48 * i + k) 0) 0 48 (λ k. octet_is block (48 * i + k))
+
+payload_on : (block : List ℕ) (k : ℕ) → payload_at block (k + 1) ≡ payload_at (drop 48 block) k
 payload_on block k =
-    same_at (λ j. get_or block (48 * (k + 1) + j) 0) (λ j. get_or (drop 48 block) (48 * k + j) 0) 0 48
+    payload_is block (k + 1)
+    ∙ same_at (λ j. get_or block (48 * (k + 1) + j) 0) (λ j. get_or (drop 48 block) (48 * k + j) 0) 0 48
     (λ j. let e : 48 * (k + 1) + j ≡ 48 + (48 * k + j) = omega arith in ap (λ m. get_or block m 0) e ∙ sym (get_or-drop 48 block (48 * k + j) 0))
+    ∙ sym (payload_is (drop 48 block) k)
 
 -- the first of the cells, and the others
 pub cells_next : (header : ℕ) (block : List ℕ) → 0 < length block → cells_of header block ≡ record { header = header; payload = payload_at block 0 } ∷ cells_of header (drop 48 block)
@@ -70,11 +86,11 @@ taken header header' (x ∷ block) place left rest t same_header e =
     record { cell = t.cell; first = t.first ∙ ap (λ cs. t.cell ∷ cs) (same ∙ sym (ap₂ cells_of same_header e)); written = t.written }
 
 pub first_of : (block p : List ℕ) (used : ℕ) → used ≡ min (length block) 48 → p ≡ take used block ++ drop used (replicate 48 0) → p ≡ payload_at block 0
-unfolding payload_at
 first_of block p used e is =
     let front : length (take used block) ≡ used = simp length-take (omega arith) in
     let whole : length p ≡ 48 = rw is (simp (length-append, length-drop, length-take, length-replicate) (omega arith)) in
     fill_by_all (λ k. get_or block (48 * 0 + k) 0) p 48 0 whole (λ k h. let z : 48 * 0 + k ≡ k = omega arith in rw (is, z) (at front k h (leb used k) refl))
+    ∙ sym (payload_is block 0)
   where
     at : length (take used block) ≡ used → (k : ℕ) → k < 48 → (b : Bool) → leb used k ≡ b → get_or (take used block ++ drop used (replicate 48 0)) k 0 ≡ get_or block k 0
     at front k h true t =

@@ -7,7 +7,8 @@
 --   bits_on n           the bit count, one on: it stops at 2^63 - 1
 --   bit_counted k       the book k, with one bit more seen
 --   counting k c        the book k, with the counters c
---   took_one c          the counters c, with one cell more that a sink took; so the others, each by its name
+--   took_one c          the counters c, with one cell more that a sink took; so mended_one, discarded_one, full_one, unserved_one, f3_one and
+--                       lost_one, each by its name
 --   f3_stored p k       the book k, with one F3 cell more, whose payload is p
 --   marked o k          the book k, with one header more mended or discarded, as o says, if it says so
 --   lost k              the book k, with one event more lost
@@ -65,7 +66,7 @@ abbrev pub bump : ℕ → ℕ
 bump n = min (n + 1) 4294967295
 
 abbrev pub bits_on : ℕ → ℕ
-bits_on n = cond (nat_lt n (2 ^ 63 - 1)) (n + 1) (2 ^ 63 - 1)
+bits_on n = min (n + 1) (2 ^ 63 - 1)
 
 abbrev pub bit_counted : Book → Book
 bit_counted k = record k { bits = bits_on k.bits }

@@ -1,16 +1,17 @@
 -- Handing cells up, bit by bit.
 --
---   Reply            what handing a cell up came to, where one was handed up: the sink took it, or why it did not
---   Puts c k r k'    the user cell c is put into a sink that means k before and k' after it: the answer is r
---   Handed o k r k'  the same of the user cell o, if there is one; where there is none, the sink does not reply
---   NotAsked o a b   where there is no user cell o, the sink a is not asked: it is then the very same, b
---   Quiet s bs       over the bits bs, from the tracker s on, no user cell is handed up
+--   Reply             what handing a cell up came to, where one was handed up: the sink took it, or why it did not
+--   Puts c k r k'     the user cell c is put into a sink that means k before and k' after it: the answer is r
+--   Handed o k r k'   the same of the user cell o, if there is one; where there is none, the sink does not reply
+--   NotAsked o a b    where there is no user cell o, the sink a is not asked: it is then the very same, b
+--   Quiet s bs        over the bits bs, from the tracker s on, no user cell is handed up
 --   Unasked s bs a b  where that is so, the sink a is not asked: it is then the very same, b
---   Moment           one bit of a feed: the bit, what the sink lent means before and after it, and its reply
---   bits ms          the bits of moments
---   Along s k ms k'  the moments ms, one after the other, from the tracker s on: each hands up the cell that its bit completes, and
---                    takes over the sink as the one before left it
---   taken_in ms      how many cells the sink took
+--   Moment            one bit of a feed: the bit, what the sink lent means before and after it, and its reply
+--   bits ms           the bits of moments
+--   Along s k ms k'   the moments ms, one after the other, from the tracker s on: each hands up the cell that its bit completes, and
+--                     takes over the sink as the one before left it
+--   taken r           one, where the reply r is that the sink took a cell, and else none
+--   taken_in ms       how many cells the sink took
 use Rattle.std.specs.Prelude.{◌≡◌, ℕ, ◌+◌, Bool, List, [], ◌∷◌, Some, None, Option, ⊤, Ok, Err, Result}
 use Rattle.cell.specs.declared.refusal.Refusal.TheVariants as refusal
 use Rattle.ports.specs.Cell.{Cell}

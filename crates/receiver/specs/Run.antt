@@ -6,7 +6,7 @@
 --   step s b       the tracker s after the bit b
 --   after s bs     the tracker s after the bits bs
 --   kept_cell s b  the kept cell whose last bit is b, descrambled, if it is one (cell_in: by what the bit brings)
---   user_cell o    the user cell among a cell, if it is one: by its header alone
+--   user_cell o    the user cell among a cell, if it is one: by its header alone (user_by: by its kind)
 --   offered s b    the user cell that is handed up with the bit b, if one is
 use Rattle.std.specs.Prelude.{ℕ, ◌-◌, ◌/◌, ◌%◌, ◌^◌, Bool, List, [], ◌∷◌, ◌++◌, Some, None, Option, ◌==◌}
 use Rattle.cell.specs.Header.{kind_of}

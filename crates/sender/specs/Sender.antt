@@ -17,8 +17,8 @@
 --   KindWhy s cells kind  the number of the kind, and why a cell of this kind goes out
 --   Sends                 what an accepted send writes, answers and leaves
 --   SendAnswer            what a send answers and leaves in sender, source and place, also where it is refused
---   NotAsked kind a b     the source a, which is not asked for an F3 cell, is then the very same
---   SourceAnswer r a b    what a send leaves of the source a itself, whatever it is: at an F3 cell and where it is refused, a
+--   NotAsked kind a b     a source that is a before and b after a cell of this kind is not asked for an F3 cell: b is then the very a
+--   SourceAnswer r a b    the same of a send with the answer r, which may be refused: b is then the very a too
 --   with_f3 s f           the sender s with the F3 payload f
 --   F3Why f e             why the F3 payload f is refused with e
 --   F3Answer s f r s'     what setting the F3 payload f answers, and the sender after it
@@ -32,7 +32,7 @@ use Rattle.cell.specs.declared.refusal.Refusal.{Refusal}
 use Rattle.cell.specs.declared.refusal.Refusal.TheVariants.{NoOctets, TooManyOctets, BadPhase, WrongLength, ReservedHeader, NotServed, NoSpace, NoneWaiting, BadSampleWord, NoOnePhase}
 use Rattle.ports.specs.Cell.{Cell, octets}
 use Rattle.scrambler.specs.Coding.{coded}
-use Rattle.scrambler.specs.Generator.{next_phase}
+use Rattle.scrambler.specs.Generator.{next_phase, Running}
 
 pub record SenderState : Type 0 where
   pub phase : ℕ
@@ -40,7 +40,7 @@ pub record SenderState : Type 0 where
   pub f3 : List ℕ
 
 pub record IsRunning (s : SenderState) : Type 0 where
-  pub phase : (0 < s.phase) × (s.phase < 2 ^ 31)
+  pub phase : Running s.phase
   pub number : s.number < 432
   pub f3 : length s.f3 ≡ 48
 
@@ -48,7 +48,7 @@ abbrev pub fresh : SenderState
 fresh = record { phase = 1; number = 0; f3 = replicate 48 0x6A }
 
 abbrev pub started : SenderState → ℕ → SenderState
-started s p = record { phase = p; number = 0; f3 = s.f3 }
+started s p = record s { phase = p; number = 0 }
 
 abbrev pub waiting_kind : List Cell → Kind
 waiting_kind [] = Idle
@@ -78,7 +78,7 @@ abbrev pub left_waiting : SenderState → List Cell → List Cell
 left_waiting s cells = cond (s.number == 0) cells (rest cells)
 
 abbrev pub advanced : SenderState → SenderState
-advanced s = record { phase = next_phase s.phase; number = (s.number + 1) % 432; f3 = s.f3 }
+advanced s = record s { phase = next_phase s.phase; number = (s.number + 1) % 432 }
 
 -- ---- a start
 
@@ -87,7 +87,7 @@ StartWhy p BadPhase = (number_of BadPhase ≡ 3) × ((p ≡ 0) ⊎ (2 ^ 31 ≤ p
 StartWhy p _ = ⊥
 
 abbrev pub StartAnswer : {X : Type 0} → SenderState → ℕ → Result X Refusal → SenderState → Type 0
-StartAnswer s p r s' = MatchResult r (λ _. (0 < p) × (p < 2 ^ 31) × (s' ≡ started s p)) (λ e. StartWhy p e × (s' ≡ s))
+StartAnswer s p r s' = MatchResult r (λ _. Running p × (s' ≡ started s p)) (λ e. StartWhy p e × (s' ≡ s))
 
 -- ---- a send
 
@@ -126,7 +126,7 @@ SourceAnswer r source source' = MatchResult r (λ kind. NotAsked kind source sou
 -- ---- the setting of the F3 payload
 
 abbrev pub with_f3 : SenderState → List ℕ → SenderState
-with_f3 s f = record { phase = s.phase; number = s.number; f3 = f }
+with_f3 s f = record s { f3 = f }
 
 abbrev pub F3Why : List ℕ → Refusal → Type 0
 F3Why f WrongLength = (number_of WrongLength ≡ 4) × (length f ≢ 48)

@@ -26,7 +26,7 @@ use Rattle.cell.specs.declared.line_header.LineHeader.{LineHeader}
 use Rattle.ports.specs.Cell as cells
 use Rattle.ports.specs.Cell.{Cell, octets}
 use Rattle.scrambler.specs.Coding.{coded, CarriesSamples}
-use Rattle.scrambler.specs.Generator.{step, iterate, next_phase}
+use Rattle.scrambler.specs.Generator.{step, iterate, next_phase, Running}
 use Rattle.sender.specs.Sender.{SenderState, Sends, fresh, started, idle_cell, cell_sent, Octets, with_f3}
 
 pub record Send : Type 0 where
@@ -89,7 +89,7 @@ header_on line = record { header = record { 0 = header_of line }; hec = slice_in
 pub record CellLaws (p : ℕ) (front : List Send) (x : Send) : Type 0 where
   -- its phase is the start's, moved on by 424 steps for each cell before it, and it is coded at that phase
   pub phase : x.phase ≡ iterate (424 * length front) step p
-  pub running : (0 < x.phase) × (x.phase < 2 ^ 31)
+  pub running : Running x.phase
   pub written : x.line ≡ coded x.phase (octets x.cell)
   -- its payload has 48 octets, and the line carries 53
   pub payload : Octets 48 x.cell.payload

@@ -1,6 +1,7 @@
 -- The receiving end on the line's bits alone: what one bit does to it, and what it brings.
 --
---   hunted n w             hunting: once 40 bits have come (n), a header w that agrees ends the hunt; else it goes on
+--   hunt_ended n w         once 40 bits have come (n), a header w that agrees ends the hunt
+--   hunted n w             hunting: a payload follows, or the hunt goes on
 --   control_after m a n w  the state after a bit that fell at the place a, where w are the last 40 bits with it
 --   unmasked p xs          the payload xs descrambled at the phase p, or as it is where there is none
 --   descrambled h l xs     the payload xs of a cell that is kept, with the header h, or not: only that of a kept one is descrambled
@@ -29,8 +30,11 @@ use Rattle.tracker.specs.Window.{agrees, pushed}
 use Rattle.tracker.specs.Rules.{both, headed, locked_on, phase_of}
 use Rattle.tracker.specs.Events.{events_on, hunt_ends}
 
+abbrev pub hunt_ended : ℕ → ℕ → Bool
+hunt_ended n w = both (n == 40) (agrees w)
+
 abbrev pub hunted : ℕ → ℕ → Place
-hunted n w = cond (both (n == 40) (agrees w)) (Payload 47 7 None (locked_on w)) Hunt
+hunted n w = cond (hunt_ended n w) (Payload 47 7 None (locked_on w)) Hunt
 
 -- a payload has 48 octets of 8 bits, a header 40 bits
 abbrev pub control_after : Mode → Place → ℕ → ℕ → Control
@@ -59,7 +63,7 @@ cell_ends None = None
 cell_ends (Some h) = Some (moment.Cell h)
 
 abbrev pub brought : Mode → Place → ℕ → ℕ → Option Moment
-brought m Hunt n w = cond (both (n == 40) (agrees w)) (Some (moment.Header hunt_ends)) None
+brought m Hunt n w = cond (hunt_ended n w) (Some (moment.Header hunt_ends)) None
 brought m (Payload o b k l) n w = cond (nat_lt 0 b) None (cond (nat_lt 0 o) None (cell_ends k))
 brought m (Header j l) n w = cond (nat_lt 0 j) None (Some (moment.Header (events_on m l w)))
 

@@ -33,8 +33,8 @@ goes_on x s s' xs h r = record { first = h.first; begins = h.begins; run = strea
 
 start-stands : (s s' : SenderState) (p : ℕ) (answer : Result (Unit {0}) Refusal) (t : Streams) → StartAnswer s p answer s' → Stands s t → Stands s' (started_with p answer t)
 start-stands s s' p (Ok u) t h st =
-    subst (λ (z : SenderState). Stands z (started_with p (Ok u) t)) (sym h.2)
-    (record { newest = record { first = started s p; begins = stream.start s p h.0 h.1; run = none }; earlier = (is_sent t.newest s st.newest, st.earlier) })
+    subst (λ (z : SenderState). Stands z (started_with p (Ok u) t)) (sym h.1)
+    (record { newest = record { first = started s p; begins = stream.start s p h.0; run = none }; earlier = (is_sent t.newest s st.newest, st.earlier) })
 start-stands s s' p (Err e) t h st = subst (λ (z : SenderState). Stands z t) (sym h.1) st
 
 send_runs : (s s' : SenderState) (x : Sending) (answer : Result Kind Refusal) → AllByRecursion User x.waiting → SendAnswer s x.waiting x.place answer s' x.waiting' x.place' → Run s (sent_by s x answer) s'

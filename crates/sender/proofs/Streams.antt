@@ -84,7 +84,7 @@ run_first s u xs (f3_set {f = f} o run) = f3_kept s f xs (run_first _ u xs run)
 
 begin : (p : ℕ) (s : SenderState) → Begins p s → (s.phase ≡ p) × (s.number ≡ 0) × (0 < p) × (p < 2 ^ 31)
 begin p s made = (refl, refl, lit< tt, lit< tt)
-begin p s (start _ _ h b) = (refl, refl, h, b)
+begin p s (start _ _ h) = (refl, refl, h.0, h.1)
 
 -- ---- of one send
 

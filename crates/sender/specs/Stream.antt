@@ -51,7 +51,7 @@ pub data Run : SenderState → List Send → SenderState → Type 0 where
 
 pub data Begins : ℕ → SenderState → Type 0 where
   made : Begins 1 fresh
-  start : (s : SenderState) (p : ℕ) → 0 < p → p < 2 ^ 31 → Begins p (started s p)
+  start : (s : SenderState) (p : ℕ) → Running p → Begins p (started s p)
 
 pub record SentStream (p : ℕ) (xs : List Send) : Type 0 where
   pub first : SenderState

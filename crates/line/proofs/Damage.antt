@@ -5,9 +5,10 @@
 --   damaged os       the octets os, each of them changed
 --   burst six later  the lines as they come in: those of the sends six damaged, those of later as sent
 use Rattle.std.proofs.Common.{◌≡◌, ℕ, zero, suc, ◌+◌, ◌*◌, ◌%◌, ◌^◌, ◌<◌, ◌≤◌, ◌⊎◌, List, [], ◌∷◌, ◌++◌, map, length, get_or, sym, refl, ap, ◌∙◌, inl, inr, append_assoc, mod-lt, arith, lit<, length-append}
+use Rattle.std.proofs.lemmas.List.{length-map}
 use Rattle.std.specs.List.{AllByRecursion}
 use Rattle.sender.specs.Sender.{Octets}
-use Rattle.sender.specs.Stream.{Send, SentStream, line_of}
+use Rattle.sender.specs.Stream.{Send, SentStream}
 use Rattle.sender.proofs.Streams.{stream_laws}
 use Rattle.receiver.specs.Run.{bits_of}
 use Rattle.receiver.proofs.Runs.{bits_of-append}
@@ -23,17 +24,9 @@ Octets53 ls = AllByRecursion (λ l. Octets 53 l) ls
 abbrev pub lines_of : List Send → List (List ℕ)
 lines_of xs = map (λ x. x.line) xs
 
-pub line_joined : (xs : List Send) → line_of xs ≡ join (lines_of xs)
-line_joined [] = refl
-line_joined (x ∷ xs) = ap (λ l. x.line ++ l) (line_joined xs)
-
 pub bits-joined : (ls : List (List ℕ)) → join (map bits_of ls) ≡ bits_of (join ls)
 bits-joined [] = refl
 bits-joined (l ∷ ls) = ap (λ w. bits_of l ++ w) (bits-joined ls) ∙ sym (bits_of-append l (join ls))
-
-pub length-map : {A B : Type 0} (f : A → B) (xs : List A) → length (map f xs) ≡ length xs
-length-map f [] = refl
-length-map f (x ∷ xs) = ap suc (length-map f xs)
 
 pub length-join : (ls : List (List ℕ)) → Octets53 ls → length (join ls) ≡ 53 * length ls
 length-join [] h = refl
@@ -43,27 +36,11 @@ pub bits_whole : (ls : List (List ℕ)) → Octets53 ls → AllByRecursion (λ w
 bits_whole [] h = tt
 bits_whole (l ∷ ls) h = (length-bits_of l ∙ ap (λ (n : ℕ). 8 * n) h.0.0, bits_whole ls h.1)
 
-pub octets-append : (ls ms : List (List ℕ)) → Octets53 ls → Octets53 ms → Octets53 (ls ++ ms)
-octets-append [] ms a b = b
-octets-append (l ∷ ls) ms a b = (a.0, octets-append ls ms a.1 b)
-
 -- the lines of the sends of a stream
 pub stream_octets : (p : ℕ) (all : List Send) → SentStream p all → (front xs : List Send) → all ≡ front ++ xs → Octets53 (lines_of xs)
 stream_octets p all stream front [] e = tt
 stream_octets p all stream front (x ∷ xs) e =
     ((stream_laws.cells p all stream front x xs e).line, stream_octets p all stream (front ++ x ∷ []) xs (e ∙ sym (append_assoc front (x ∷ []) xs)))
-
-pub lines_append : (xs ws : List Send) → lines_of (xs ++ ws) ≡ lines_of xs ++ lines_of ws
-lines_append [] ws = refl
-lines_append (w ∷ xs) ws = ap (λ l. w.line ∷ l) (lines_append xs ws)
-
-pub octets_front : (ls ms : List (List ℕ)) → Octets53 (ls ++ ms) → Octets53 ls
-octets_front [] ms h = tt
-octets_front (l ∷ ls) ms h = (h.0, octets_front ls ms h.1)
-
-pub octets-back : (ls ms : List (List ℕ)) → Octets53 (ls ++ ms) → Octets53 ms
-octets-back [] ms h = h
-octets-back (l ∷ ls) ms h = octets-back ls ms h.1
 
 -- ---- damage
 
@@ -87,7 +64,7 @@ burst six later = map (λ y. damaged y.line) six ++ lines_of later
 
 pub damaged_lines : (six : List Send) → Octets53 (lines_of six) → Octets53 (map (λ y. damaged y.line) six)
 damaged_lines [] h = tt
-damaged_lines (y ∷ six) h = ((length-map _ y.line ∙ h.0.0, damaged_octets y.line), damaged_lines six h.1)
+damaged_lines (y ∷ six) h = ((length-map y.line _ ∙ h.0.0, damaged_octets y.line), damaged_lines six h.1)
 
 as_sent_lem : (later : List Send) (i : ℕ) → get_or (map bits_of (lines_of later)) i [] ≡ get_or (map (λ x. bits_of x.line) later) i []
 as_sent_lem [] i = refl
@@ -117,5 +94,5 @@ inside_six x six later zero o l h k e = omega arith
 inside_six x six later (suc i) o l h k e = within_six six later i o (omega arith) e
 
 pub length_burst : (six later : List Send) → length (burst six later) ≡ length (six ++ later)
-length_burst [] later = length-map (λ x. x.line) later
+length_burst [] later = length-map later (λ x. x.line)
 length_burst (y ∷ six) later = ap suc (length_burst six later)

@@ -27,7 +27,9 @@ pub mod Evidence
 pub mod Puts
 pub mod SentHeaders
 pub mod SampleSends
+pub mod FedStream
 pub mod StreamInstance
 pub mod Reached
 pub mod Damage
 pub mod BurstInstance
+pub mod WrongBitInstances

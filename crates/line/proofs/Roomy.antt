@@ -45,7 +45,7 @@ pub record Roomy (n : ℕ) (k : SinkState) : Type 0 where
   pub serves : (h : ℕ) → k.serves h ≡ true
   pub space : (j : ℕ) → n ≤ k.space j
 
-abbrev pub wide : SinkState
+abbrev wide : SinkState
 wide = record { held = λ _. []; space = λ _. 2 ^ 31 - 1; serves = λ _. true }
 
 -- a cell that a put can take
@@ -105,22 +105,18 @@ offered_fit s b l c e =
 
 -- ---- the moments
 
-abbrev pub moments_over : Tracker → SinkState → List Bool → List Moment
+abbrev moments_over : Tracker → SinkState → List Bool → List Moment
 moments_over s k [] = []
 moments_over s k (b ∷ bs) =
     record { bit = b; sink = k; reply = reply_to (offered s b); sink' = sink_with (offered s b) k } ∷ moments_over (step s b) (sink_with (offered s b) k) bs
 
-abbrev pub sink_over : Tracker → SinkState → List Bool → SinkState
+abbrev sink_over : Tracker → SinkState → List Bool → SinkState
 sink_over s k [] = k
 sink_over s k (b ∷ bs) = sink_over (step s b) (sink_with (offered s b) k) bs
 
-pub bits_over : (bs : List Bool) (s : Tracker) (k : SinkState) → bits (moments_over s k bs) ≡ bs
+bits_over : (bs : List Bool) (s : Tracker) (k : SinkState) → bits (moments_over s k bs) ≡ bs
 bits_over [] s k = refl
 bits_over (b ∷ bs) s k = ap (λ l. b ∷ l) (bits_over bs (step s b) (sink_with (offered s b) k))
-
-pub over_append : (xs ys : List Bool) (s : Tracker) (k : SinkState) → moments_over s k (xs ++ ys) ≡ moments_over s k xs ++ moments_over (after s xs) (sink_over s k xs) ys
-over_append [] ys s k = refl
-over_append (x ∷ xs) ys s k = ap (λ l. record { bit = x; sink = k; reply = reply_to (offered s x); sink' = sink_with (offered s x) k } ∷ l) (over_append xs ys (step s x) (sink_with (offered s x) k))
 
 abbrev pub RoomyAt : Moment → Type 0
 RoomyAt m = Roomy 1 m.sink
@@ -158,8 +154,8 @@ pub record FedNew (os : List ℕ) : Type 0 where
   pub call : receiving.Call
   pub receiver : Receiver
   pub history : History (call ∷ []) receiver
-  pub hears : (heard history).newest ≡ moments_over start wide (bits_of os)
-  pub ready : AllByRecursion RoomyAt (moments_over start wide (bits_of os))
+  pub hears : bits (heard history).newest ≡ bits_of os
+  pub ready : AllByRecursion RoomyAt (heard history).newest
 
 -- with a ring of a thousand places
 pub feed_new : (os : List ℕ) → 0 < length os → length os ≤ 4096 → FedNew os
@@ -187,6 +183,6 @@ feed_new os some few =
       call = receiving.feed f;
       receiver = r;
       history = receiving.called receiving.made fed;
-      hears = refl;
+      hears = bits_over (bits_of os) start wide;
       ready = roomy_over (bits_of os) start wide refl (wide_roomy os few);
     }

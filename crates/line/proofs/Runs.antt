@@ -1,5 +1,10 @@
 -- Runs of bits and moments in parts. Knows nothing of what a bit does.
-use Rattle.std.proofs.Common.{◌≡◌, ℕ, zero, suc, List, [], ◌∷◌, ◌++◌, length, take, refl, ap}
+--
+--   Ended n w                  n bits of w, and the last one
+--   Parted ms before left      the moments ms, cut in two: the bits before, and left
+--   PartedAt ms before b left  the moments ms, cut at that of the bit b: the bits before come ahead of it, and left after it
+use Rattle.std.proofs.Common.{◌≡◌, ℕ, zero, suc, Bool, List, [], ◌∷◌, ◌++◌, length, take, refl, ap, ap₂, arith}
+use Rattle.std.specs.List.{AllByRecursion}
 use Rattle.ports.specs.Sink.{SinkState}
 use Rattle.tracker.specs.declared.tracker.Tracker.{Tracker}
 use Rattle.receiver.specs.Run.{step, after}
@@ -32,3 +37,72 @@ heard-rest s (x ∷ xs) ys a = heard-rest (step s x.bit) xs ys a.1
 pub heard_along : (ms : List Moment) (s : Tracker) (k k' : SinkState) → Along s k ms k' → Heard s ms
 heard_along [] s k k' a = tt
 heard_along (m ∷ ms) s k k' a = (a.1, heard_along ms (step s m.bit) m.sink' k' a.2)
+
+-- ---- lists in parts
+
+module _ {A : Type 0} (P : A → Type 0) where
+  pub all_front : (xs ys : List A) → AllByRecursion P (xs ++ ys) → AllByRecursion P xs
+  all_front [] ys a = tt
+  all_front (x ∷ xs) ys a = (a.0, all_front xs ys a.1)
+
+  pub all_rest : (xs ys : List A) → AllByRecursion P (xs ++ ys) → AllByRecursion P ys
+  all_rest [] ys a = a
+  all_rest (x ∷ xs) ys a = all_rest xs ys a.1
+
+  pub all_joined : (xs ys : List A) → AllByRecursion P xs → AllByRecursion P ys → AllByRecursion P (xs ++ ys)
+  all_joined [] ys a b = b
+  all_joined (x ∷ xs) ys a b = (a.0, all_joined xs ys a.1 b)
+
+pub record Ended (n : ℕ) (w : List Bool) : Type 0 where
+  pub front : List Bool
+  pub last : Bool
+  pub is : w ≡ front ++ last ∷ []
+  pub long : length front ≡ n
+
+pub ended : (n : ℕ) (w : List Bool) → length w ≡ suc n → Ended n w
+ended n [] h = absurd (omega arith)
+ended zero (b ∷ []) h = record { front = []; last = b; is = refl; long = refl }
+ended zero (b ∷ c ∷ w) h = absurd (omega arith)
+ended (suc n) (b ∷ w) h =
+    let c = ended n w (omega arith) in
+    record { front = b ∷ c.front; last = c.last; is = ap (λ l. b ∷ l) c.is; long = ap suc c.long }
+
+pub record Parted (ms : List Moment) (before left : List Bool) : Type 0 where
+  pub past : List Moment
+  pub rest : List Moment
+  pub is : ms ≡ past ++ rest
+  pub heard : bits past ≡ before
+  pub others : bits rest ≡ left
+
+pub parted : (before left : List Bool) (ms : List Moment) → bits ms ≡ before ++ left → Parted ms before left
+parted [] left ms e = record { past = []; rest = ms; is = refl; heard = refl; others = e }
+parted (c ∷ before) left [] e = absurd (let z = ap length e in omega arith)
+parted (c ∷ before) left (m ∷ ms) e =
+    let v : Parted ms before left = parted before left ms cc in
+    let first : m.bit ≡ c = cc in
+    record {
+      past = m ∷ v.past;
+      rest = v.rest;
+      is = ap (λ l. m ∷ l) v.is;
+      heard = ap₂ (λ (x : Bool) (w : List Bool). x ∷ w) first v.heard;
+      others = v.others;
+    }
+
+pub record PartedAt (ms : List Moment) (before : List Bool) (b : Bool) (left : List Bool) : Type 0 where
+  pub past : List Moment
+  pub m : Moment
+  pub rest : List Moment
+  pub is : ms ≡ past ++ m ∷ rest
+  pub heard : bits past ≡ before
+  pub bit : m.bit ≡ b
+  pub others : bits rest ≡ left
+
+pub parted_at : (before : List Bool) (b : Bool) (left : List Bool) (ms : List Moment) → bits ms ≡ before ++ b ∷ left → PartedAt ms before b left
+parted_at before b left ms e = go v.rest v.is v.others
+  where
+    v : Parted ms before (b ∷ left)
+    v = parted before (b ∷ left) ms e
+
+    go : (rest : List Moment) → ms ≡ v.past ++ rest → bits rest ≡ b ∷ left → PartedAt ms before b left
+    go [] i o = absurd (let z = ap length o in omega arith)
+    go (m ∷ rest) i o = record { past = v.past; m = m; rest = rest; is = i; heard = v.heard; bit = cc; others = cc }

@@ -8,7 +8,7 @@ pub fn line_theorem_holds()
 {}
 
 /// Calls on both ends exist that bring about what the theorem asks for: this call does nothing, and its contract shows them.
-#[tactic(auto, using(crate::proofs::StreamInstance::stream_arrives, crate::proofs::BurstInstance::burst_arrives))]
+#[tactic(auto, using(crate::proofs::StreamInstance::stream_arrives, crate::proofs::BurstInstance::burst_arrives, crate::proofs::WrongBitInstances::mended_arrives, crate::proofs::WrongBitInstances::two_wrong_arrives))]
 pub fn instances_exist()
     ensures { Instances }
 {}

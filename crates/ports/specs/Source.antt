@@ -7,7 +7,7 @@
 use Rattle.std.specs.Prelude.{◌≡◌, ℕ, List, [], ◌∷◌, length, Result, MatchResult, ◌≢◌}
 use Rattle.cell.specs.Refusal.{number_of}
 use Rattle.cell.specs.declared.refusal.Refusal.{Refusal}
-use Rattle.cell.specs.declared.refusal.Refusal.TheVariants.{NoOctets, TooManyOctets, BadPhase, WrongLength, ReservedHeader, NotServed, NoSpace, NoneWaiting, BadSampleWord, NoOnePhase}
+use Rattle.cell.specs.declared.refusal.Refusal.TheVariants.{WrongLength, NoneWaiting}
 use Rattle.ports.specs.Cell.{Cell, octets}
 
 abbrev pub TakeWhy : List Cell → List ℕ → Refusal → Type 0

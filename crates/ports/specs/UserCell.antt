@@ -10,7 +10,7 @@ use Rattle.std.specs.Prelude.{◌≡◌, ℕ, true, false, List, length, Result,
 use Rattle.cell.specs.Header.{reserved}
 use Rattle.cell.specs.Refusal.{number_of}
 use Rattle.cell.specs.declared.refusal.Refusal.{Refusal}
-use Rattle.cell.specs.declared.refusal.Refusal.TheVariants.{NoOctets, TooManyOctets, BadPhase, WrongLength, ReservedHeader, NotServed, NoSpace, NoneWaiting, BadSampleWord, NoOnePhase}
+use Rattle.cell.specs.declared.refusal.Refusal.TheVariants.{WrongLength, ReservedHeader}
 use Rattle.ports.specs.Cell.{Cell, octets}
 use Rattle.ports.specs.declared.user_cell.UserCell.{UserCell}
 

@@ -23,7 +23,7 @@ use Rattle.cell.specs.Header.{header_of}
 pub use Rattle.cell.specs.Header.{header_octets}
 use Rattle.cell.specs.declared.line_header.LineHeader.{LineHeader}
 use Rattle.cell.specs.declared.refusal.Refusal.{Refusal}
-use Rattle.cell.specs.declared.refusal.Refusal.TheVariants.{NoOctets, TooManyOctets, BadPhase, WrongLength, ReservedHeader, NotServed, NoSpace, NoneWaiting, BadSampleWord, NoOnePhase}
+use Rattle.cell.specs.declared.refusal.Refusal.TheVariants.{BadPhase, WrongLength}
 use Rattle.scrambler.specs.Generator.{ahead, ago, octet_ahead}
 
 unfoldable pub header_mask : ℕ → ℕ

@@ -29,7 +29,7 @@ use Rattle.cell.specs.Refusal.{number_of}
 use Rattle.cell.specs.declared.header.Kind.{Kind}
 use Rattle.cell.specs.declared.header.Kind.TheVariants.{Idle, F3, User}
 use Rattle.cell.specs.declared.refusal.Refusal.{Refusal}
-use Rattle.cell.specs.declared.refusal.Refusal.TheVariants.{NoOctets, TooManyOctets, BadPhase, WrongLength, ReservedHeader, NotServed, NoSpace, NoneWaiting, BadSampleWord, NoOnePhase}
+use Rattle.cell.specs.declared.refusal.Refusal.TheVariants.{BadPhase, WrongLength}
 use Rattle.ports.specs.Cell.{Cell, octets}
 use Rattle.scrambler.specs.Coding.{coded}
 use Rattle.scrambler.specs.Generator.{next_phase, Running}

@@ -1,5 +1,5 @@
 #!/usr/bin/env python3
-"""Tries the built programs as their users do: send into receive, and every command line that they refuse.
+"""Tries the built programs as their users do: send into receive, every command line that they refuse, and the examples of README.md.
 
     python3 tools/try_programs.py
 
@@ -10,10 +10,12 @@ import random
 import subprocess
 import sys
 import tempfile
+import textwrap
 from pathlib import Path
 from typing import List, Tuple
 
-CRATES = Path(__file__).resolve().parent.parent / "crates"
+ROOT = Path(__file__).resolve().parent.parent
+CRATES = ROOT / "crates"
 PAYLOAD_OCTETS = 48
 LARGEST_HEADER = 0xFFFFFFFF
 
@@ -100,8 +102,34 @@ def try_sent(block: bytes, words: List[str]) -> None:
         expect(f"cells taken behind send {words}", f"user cells: written {cells}; taken {cells}, full 0, not served 0\n" in said, True)
 
 
+def example(command: str) -> List[str]:
+    """The lines that README.md shows below a command, up to an empty one."""
+    lines = (ROOT / "README.md").read_text(encoding="utf-8").split("\n")
+    first = lines.index(f"    $ {command}") + 1
+    return [line[4:] for line in lines[first : lines.index("", first)]]
+
+
+def try_examples() -> int:
+    """Each example of README.md prints what stands below it; `..` stands for more. The code that it shows is that of the crate."""
+    _, line, said = run("send", [], b"hello\n")
+    expect("the example of send", said.splitlines(), example("echo hello | crates/send/out/send > line"))
+    _, payloads, said = run("receive", [b"--payloads", b"--events"], line)
+    expect("the example of receive", said.splitlines(), example("crates/receive/out/receive --payloads --events < line > received"))
+    expect("what the example of receive writes", payloads, b"hello\n".ljust(PAYLOAD_OCTETS, b"\0"))
+    shown = example("printf 'pass 25\\nturn 5\\nturn 5\\n' | crates/trial/out/trial")
+    _, printed, _ = run("trial", [], b"pass 25\nturn 5\nturn 5\n")
+    expect("the end of the example of trial", shown[-1], "..")
+    expect("the example of trial", printed.decode().splitlines()[: len(shown) - 1], shown[:-1])
+    _, printed, _ = run("headers", [], b"0000000152\n00 00 00 00 52\nno header\n")
+    expect("the example of headers", printed.decode().splitlines(), example("printf '0000000152\\n00 00 00 00 52\\nno header\\n' | crates/headers/out/headers"))
+    code = (ROOT / "README.md").read_text(encoding="utf-8").split("```rust\n")[1].split("```")[0]
+    kept = (CRATES / "first_cell" / "src" / "main.rt").read_text(encoding="utf-8")
+    expect("the code of README.md in first_cell", textwrap.indent(code, "    ") in kept, True)
+    return 5
+
+
 def main() -> None:
-    trials = 0
+    trials = try_examples()
     draw = random.Random(3)
     headers = [[], ["--vpi", "255", "--vci", "65535"], ["--header", f"0x{LARGEST_HEADER:X}"], ["--header", "0"]]
     with tempfile.TemporaryDirectory() as folder:
@@ -127,7 +155,7 @@ def main() -> None:
             lead = ["--lead", str(draw.randrange(25, 500))] if number % 4 == 1 else []
             try_sent(draw.getrandbits(8 * length).to_bytes(length, "big") if length else b"", phase + f3 + lead + headers[number % 4])
             trials += 1
-    print(f"send and receive: {trials} trials came as they should")
+    print(f"programs: {trials} trials came as they should")
 
 
 if __name__ == "__main__":

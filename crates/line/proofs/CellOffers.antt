@@ -23,7 +23,8 @@ use Rattle.tracker.specs.Tracker.{control_after, descrambled, brought, cell_ends
 use Rattle.receiver.specs.Run.{step, after, offered, kept_cell, cell_in, user_cell}
 use Rattle.receiver.proofs.Runs.{after-append}
 use Rattle.line.proofs.Bits.{value, octets_of, window_header}
-use Rattle.line.proofs.Cells.{at, At, Cut, cut_bits, paying, on, on_length, pay_next, head_next, step_control, pay_run, head_run, place_long, long_run, nil_of, payload_run}
+use Rattle.line.proofs.Cells.{at, At, Ended, ended, paying, on, on_length, pay_next, head_next, step_control, pay_run, head_run, place_long, long_run, payload_run}
+use Rattle.line.proofs.Runs.{all_joined}
 
 pay_quiet : (m : Mode) (j : ℕ) (k : Option headers.Header) (l : Lock) (n w : ℕ) → brought m (paying (suc j) k l) n w ≡ None
 pay_quiet m j k l n w = go (dec_lt 0 (suc j % 8))
@@ -52,10 +53,6 @@ offers s (b ∷ bs) = offered s b ∷ offers (step s b) bs
 
 abbrev pub Quiet : List (Option Cell) → Type 0
 Quiet os = AllByRecursion (λ (o : Option Cell). o ≡ None) os
-
-pub quiet_append : (xs ys : List (Option Cell)) → Quiet xs → Quiet ys → Quiet (xs ++ ys)
-quiet_append [] ys a b = b
-quiet_append (x ∷ xs) ys a b = (a.0, quiet_append xs ys a.1 b)
 
 pub offers_append : (xs ys : List Bool) (s : Tracker) → offers s (xs ++ ys) ≡ offers s xs ++ offers (after s xs) ys
 offers_append [] ys s = refl
@@ -119,25 +116,20 @@ pub record Heads (s : Tracker) (d : Mode) (l : Lock) (hs : List Bool) : Type 0 w
 
 pub heads : (s : Tracker) (d : Mode) (l : Lock) (hs : List Bool) → At s d (Header 39 l) → length hs ≡ 40 → Heads s d l hs
 unfolding step
-heads s d l hs a len = go (cut_bits 39 hs (omega arith))
-  where
-    go : Cut 39 hs → Heads s d l hs
-    go c =
-        let xs : List Bool = c.front in
-        let e : s.control ≡ at d (Header (on xs 0) l) = a.control
-        ∙ ap (λ z. at d (Header z l)) (let q = on_length xs 0 in let r = c.long in let z : 39 ≡ on xs 0 = omega arith in z) in
-        let t : (after s xs).control ≡ at d (Header 0 l) = head_run xs 0 s d l e in
-        let nb : c.back ≡ [] = nil_of c.back
-        (let z = ap length c.is ∙ length-append xs (c.last ∷ c.back) in let r = c.long in omega arith) in
-        let i : hs ≡ xs ++ c.last ∷ [] = c.is ∙ ap (λ z. xs ++ c.last ∷ z) nb in
-        let st : after s hs ≡ step (after s xs) c.last = ap (after s) i ∙ after-append s xs (c.last ∷ []) in
-        let v : (step (after s xs) c.last).window.bits ≡ value hs = ap (λ (z : Tracker). z.window.bits) (sym st) ∙ window_header hs s len in
-        record {
-          quiet = subst Quiet (sym (ap (offers s) i ∙ offers_append xs (c.last ∷ []) s))
-              (quiet_append (offers s xs) (offers (after s xs) (c.last ∷ [])) (head_offers xs 0 s d l e)
-              (offers_none (after s xs) c.last d (Header zero l) (λ i w xs. refl) t, tt));
-          control = ap (λ (z : Tracker). z.control) st
-              ∙ ap (λ (z : Control). control_after z.mode z.place (counted (after s xs).window.come) (shifted (after s xs).window.bits c.last)) t
-              ∙ ap (headed d l) v;
-          long = long_run hs s ∙ a.long;
-        }
+heads s d l hs a len =
+    let c : Ended 39 hs = ended 39 hs len in
+    let xs : List Bool = c.front in
+    let e : s.control ≡ at d (Header (on xs 0) l) = a.control
+    ∙ ap (λ z. at d (Header z l)) (let q = on_length xs 0 in let r = c.long in let z : 39 ≡ on xs 0 = omega arith in z) in
+    let t : (after s xs).control ≡ at d (Header 0 l) = head_run xs 0 s d l e in
+    let st : after s hs ≡ step (after s xs) c.last = ap (after s) c.is ∙ after-append s xs (c.last ∷ []) in
+    let v : (step (after s xs) c.last).window.bits ≡ value hs = ap (λ (z : Tracker). z.window.bits) (sym st) ∙ window_header hs s len in
+    record {
+      quiet = subst Quiet (sym (ap (offers s) c.is ∙ offers_append xs (c.last ∷ []) s))
+          (all_joined (λ (o : Option Cell). o ≡ None) (offers s xs) (offers (after s xs) (c.last ∷ [])) (head_offers xs 0 s d l e)
+          (offers_none (after s xs) c.last d (Header zero l) (λ i w xs. refl) t, tt));
+      control = ap (λ (z : Tracker). z.control) st
+          ∙ ap (λ (z : Control). control_after z.mode z.place (counted (after s xs).window.come) (shifted (after s xs).window.bits c.last)) t
+          ∙ ap (headed d l) v;
+      long = long_run hs s ∙ a.long;
+    }

@@ -7,6 +7,7 @@
 --   paying j k l    in a payload, with j bits to come after the next
 --   on bs j         j, and one more for each of the bits bs
 --   Cut n w         n bits of w, one more, and the rest
+--   Ended n w       n bits of w, and one more, the last
 use Rattle.std.proofs.Common.{◌≡◌, ℕ, zero, suc, ◌+◌, ◌-◌, ◌*◌, ◌/◌, ◌%◌, ◌^◌, ◌<◌, ◌≤◌, Bool, true, false, cond, ltb, List, [], ◌∷◌, ◌++◌, length, take, drop, set, Some, None, Option, sym, refl, ap, ◌∙◌, subst, ap₂, append_assoc, arith, length-set, le-ltb, lt-ltb}
 use native.Mathlib.Decide.{dec_lt}
 use lib.Seq.{set_split}
@@ -61,6 +62,20 @@ cut_bits (suc n) [] h = absurd (omega arith)
 cut_bits (suc n) (b ∷ w) h =
     let c = cut_bits n w (omega arith) in
     record { front = b ∷ c.front; last = c.last; back = c.back; is = ap (λ l. b ∷ l) c.is; long = ap suc c.long }
+
+pub record Ended (n : ℕ) (w : List Bool) : Type 0 where
+  pub front : List Bool
+  pub last : Bool
+  pub is : w ≡ front ++ last ∷ []
+  pub long : length front ≡ n
+
+pub ended : (n : ℕ) (w : List Bool) → length w ≡ suc n → Ended n w
+ended n [] h = absurd (omega arith)
+ended zero (b ∷ []) h = record { front = []; last = b; is = refl; long = refl }
+ended zero (b ∷ c ∷ w) h = absurd (omega arith)
+ended (suc n) (b ∷ w) h =
+    let c = ended n w (omega arith) in
+    record { front = b ∷ c.front; last = c.last; is = ap (λ l. b ∷ l) c.is; long = ap suc c.long }
 
 -- ---- where the end stands
 

@@ -1,6 +1,6 @@
 -- The laws of the code, from the algebra of the check octet, the generator and the phase finder.
 use Rattle.std.proofs.Common.{◌≡◌, ℕ, zero, suc, ◌+◌, ◌*◌, ◌/◌, ◌%◌, ◌^◌, ◌<◌, Bool, true, false, cond, ltb, List, [], ◌∷◌, length, Ok, Err, sym, refl, ap, ◌∙◌, subst, ap₂, mod-lt, arith, pow_pos, ltb-false, le-ltb}
-use lib.Bits.{bit_xor, xor_assoc, xor_self, xor_zero_r, xor_lt, xor_shifted}
+use lib.Bits.{bit_xor, xor_assoc, xor_self, xor_zero_r, xor_lt}
 use Rattle.std.specs.List.{AllByRecursion}
 use Rattle.cell.specs.LineHeader.{bits40, of_bits, syndrome_of}
 use Rattle.cell.specs.Verdict.{agreeing, verdict_of}
@@ -11,9 +11,10 @@ use Rattle.scrambler.specs.Generator.{step, iterate, next_phase, before}
 use Rattle.scrambler.specs.Coding.{header_mask, sample8, sample7, samples, coded_header, masked}
 use Rattle.scrambler.specs.Finder.{samples_of, sample_word, OnePhase, times_rows, phase_rows, found}
 use Rattle.scrambler.proofs.Codes.{header_mask_lt, syndrome_is_samples, carries_samples, header_of_octets}
-use Rattle.scrambler.proofs.Masks.{ago_lt, sample7_lt}
+use Rattle.scrambler.proofs.Masks.{sample7_lt}
 use Rattle.scrambler.proofs.Payloads.{length-masked, masked_twice}
 use Rattle.scrambler.proofs.Rows.{one_phase_lem}
+use Rattle.scrambler.proofs.SampleSequence.{samples_sum}
 use Rattle.scrambler.proofs.Steps.{step_lt, steps_lt}
 use Rattle.sender.specs.Sender.{Octets}
 use Rattle.sender.proofs.Octets.{masked-octets, hec_lt}
@@ -98,10 +99,6 @@ undo_law p h k b =
     ap (λ (l : LineHeader). record { 0 = bit_xor l.header.0 (header_mask p) }) (head_word_of p h b)
     ∙ ap (λ (x : ℕ). record { 0 = x }) (xor_assoc h (header_mask p) (header_mask p) ∙ ap (bit_xor h) (xor_self (header_mask p)) ∙ xor_zero_r h)
 
-header_long_lem : (p h : ℕ) → length (bits_of (head_octets p h)) ≡ 40
-unfolding head_octets
-header_long_lem p h = length-bits_of (head_octets p h)
-
 no_fault_lem : verdict_of 0 ≡ Clean
 unfolding verdict_of
 no_fault_lem = refl
@@ -120,25 +117,17 @@ next_lt : (p : ℕ) → next_phase p < 2 ^ 31
 unfolding iterate
 next_lt p = steps_lt 423 (step p) (step_lt p)
 
--- the samples of one cell more
-samples_more : (n p : ℕ) → samples_of (suc n) p ≡ samples_of n (before p) * 2 ^ 2 + predicted p
-unfolding samples_of predicted
-samples_more n p =
-    xor_assoc (samples_of n (before p) * 2 ^ 2) (sample8 p * 2 ^ 1) (sample7 p)
-    ∙ ap (bit_xor (samples_of n (before p) * 2 ^ 2)) (xor_shifted (sample8 p) 1 (sample7 p) (sample7_lt p))
-    ∙ xor_shifted (samples_of n (before p)) 2 (sample8 p * 2 + sample7 p) (omega (arith, ago_lt 211 p, sample7_lt p))
-
 moved_lt : (i q : ℕ) → q < 2 ^ 31 → moved i q < 2 ^ 31
 moved_lt zero q h = h
 moved_lt (suc i) q h = next_lt (moved i q)
 
 trail_is : (i q : ℕ) → q < 2 ^ 31 → trail i q % 2 ^ 32 ≡ samples_of (suc i) (moved i q) % 2 ^ 32
-unfolding samples_of
-trail_is zero q h = ap (λ (z : ℕ). z % 2 ^ 32) (sym (samples_more 0 q))
+unfolding samples_of predicted
+trail_is zero q h = ap (λ (z : ℕ). z % 2 ^ 32) (sym (samples_sum 0 q))
 trail_is (suc i) q h =
     let before_is : before (moved (suc i) q) ≡ moved i q = backs_steps 424 (moved i q) (moved_lt i q h) in
     let e : samples_of (suc (suc i)) (moved (suc i) q) ≡ samples_of (suc i) (moved i q) * 2 ^ 2 + predicted (moved (suc i) q) =
-    samples_more (suc i) (moved (suc i) q) ∙ ap (λ (z : ℕ). samples_of (suc i) z * 2 ^ 2 + predicted (moved (suc i) q)) before_is in
+    samples_sum (suc i) (moved (suc i) q) ∙ ap (λ (z : ℕ). samples_of (suc i) z * 2 ^ 2 + predicted (moved (suc i) q)) before_is in
     up (trail i q) (samples_of (suc i) (moved i q)) (predicted (moved (suc i) q)) (trail_is i q h) ∙ ap (λ (z : ℕ). z % 2 ^ 32) (sym e)
   where
     up : (a b c : ℕ) → a % 2 ^ 32 ≡ b % 2 ^ 32 → (a % 2 ^ 30 * 2 ^ 2 + c) % 2 ^ 32 ≡ (b * 2 ^ 2 + c) % 2 ^ 32
@@ -179,7 +168,6 @@ code_laws =
       undo = undo_law;
       body = body_law;
       payload_long = payload_long_lem;
-      header_long = header_long_lem;
       fits = next_lt;
       no_fault = no_fault_lem;
       finds = finds_law;

@@ -43,7 +43,6 @@ pub record CodeLaws : Type 0 where
   -- a payload as sent is descrambled to the payload
   pub body : (p : ℕ) (xs : List ℕ) → Octets 48 xs → masked 8 p (octets_of (bits_of (masked 8 p xs))) ≡ xs
   pub payload_long : (p : ℕ) (xs : List ℕ) → Octets 48 xs → length (bits_of (masked 8 p xs)) ≡ 384
-  pub header_long : (p h : ℕ) → length (bits_of (head_octets p h)) ≡ 40
   pub fits : (p : ℕ) → next_phase p < 2 ^ 31
   pub no_fault : verdict_of 0 ≡ Clean
   -- sixteen headers in a row give the phase of the last of them, and what is found is the one phase with these samples

@@ -2,10 +2,9 @@
 -- Knows of the check octet that it tells single errors and is past mending at double ones, and nothing of the tracker's states.
 --
 --   apart x y    1 where the bits x and y differ, else 0
---   One xs ys n  the numbers of the bits xs and ys, n each, differ in one bit
---   Two xs ys n  they differ in two bits
-use Rattle.std.proofs.Common.{◌≡◌, ℕ, zero, suc, ◌+◌, ◌-◌, ◌*◌, ◌/◌, ◌%◌, ◌^◌, ◌<◌, Bool, true, false, eqb, List, [], ◌∷◌, length, sym, refl, ap, ◌∙◌, subst, ap₂, add-zero, mod-lt, mod-eq_of_lt, one-mul, zero-add, zero-mul, arith, eqb→eq, pow_pos}
-use lib.Bits.{bit_xor, xor_assoc, xor_comm, xor_zero_r, xor_lt, xor_block, xor_shifted, xor_shr, xor_mod}
+--   error xs ys  the number with ones where the bits xs and ys differ
+use Rattle.std.proofs.Common.{◌≡◌, ℕ, suc, ◌+◌, ◌-◌, ◌*◌, ◌/◌, ◌%◌, ◌^◌, ◌<◌, Bool, true, false, eqb, ◌⊎◌, inl, inr, List, [], ◌∷◌, length, sym, refl, ap, ◌∙◌, subst, ap₂, mod-lt, mod-eq_of_lt, one-mul, pow-suc, arith, eqb→eq, pow_pos}
+use lib.Bits.{bit_xor, xor_assoc, xor_zero_r, xor_lt, xor_block, xor_shifted, xor_shr, xor_mod}
 use lib.Pow.{pow-lt, split}
 use Rattle.cell.specs.CheckOctet.{check_octet, syndrome}
 use Rattle.cell.specs.LineHeader.{bits40, turned, Codeword}
@@ -13,7 +12,7 @@ use Rattle.cell.specs.Verdict.{place, verdict_of}
 use Rattle.cell.specs.declared.line_header.LineHeader.{LineHeader}
 use Rattle.cell.specs.declared.verdict.Verdict.TheVariants.{OneWrongBit, PastMending}
 use Rattle.cell.proofs.Table.{below_at}
-use Rattle.cell.proofs.WrongBits.{one_told, two_past, turned_twice, bits_of}
+use Rattle.cell.proofs.WrongBits.{xor_swap_last, one_told, two_past, turned_twice, bits_of}
 use Rattle.scrambler.specs.Coding.{sample8, sample7, samples}
 use Rattle.scrambler.proofs.Masks.{ago_lt, sample7_lt}
 use Rattle.tracker.specs.Rules.{verdict_at}
@@ -32,113 +31,71 @@ apart true false = 1
 apart false true = 1
 apart false false = 0
 
+abbrev error : List Bool → List Bool → ℕ
+error (x ∷ xs) (y ∷ ys) = apart x y * 2 ^ length xs + error xs ys
+error xs ys = 0
+
 apart_xor : (x y : Bool) → bit_xor (bit y) (apart x y) ≡ bit x
 apart_xor true true = refl
 apart_xor true false = refl
 apart_xor false true = refl
 apart_xor false false = refl
 
--- one bit more in front
-more_apart : (x y : Bool) (xs ys : List Bool) (n e : ℕ) → length xs ≡ n → length ys ≡ n → e < 2 ^ n
-    → value_from 0 xs ≡ bit_xor (value_from 0 ys) e → value_from 0 (x ∷ xs) ≡ bit_xor (value_from 0 (y ∷ ys)) (apart x y * 2 ^ n + e)
-more_apart x y xs ys n e lx ly h f =
-    number_cons x xs ∙ ap₂ (λ (j v : ℕ). bit x * 2 ^ j + v) lx f
-    ∙ ap (λ (b : ℕ). b * 2 ^ n + bit_xor (value_from 0 ys) e) (sym (apart_xor x y))
-    ∙ sym (xor_block n (bit y) (apart x y) (value_from 0 ys) e (subst (λ (j : ℕ). value_from 0 ys < 2 ^ j) ly (value_lt ys)) h)
-    ∙ ap (λ (z : ℕ). bit_xor z (apart x y * 2 ^ n + e)) (sym (number_cons y ys ∙ ap (λ (j : ℕ). bit y * 2 ^ j + value_from 0 ys) ly))
+-- one bit more in front: it is the same or not
+abbrev Same : Bool → Bool → List Bool → List Bool → Type 0
+Same x y xs ys = (error (x ∷ xs) (y ∷ ys) ≡ error xs ys) × (differing (x ∷ xs) (y ∷ ys) ≡ differing xs ys)
 
-pub same_bits : (xs ys : List Bool) → length xs ≡ length ys → differing xs ys ≡ 0 → xs ≡ ys
-same_bits [] [] l d = refl
-same_bits [] (y ∷ ys) l d = absurd (let z : ⊥ = omega arith in z)
-same_bits (x ∷ xs) [] l d = absurd (let z : ⊥ = omega arith in z)
-same_bits (true ∷ xs) (true ∷ ys) l d = ap (λ (z : List Bool). true ∷ z) (same_bits xs ys (omega arith) d)
-same_bits (true ∷ xs) (false ∷ ys) l d = absurd (let z : ⊥ = omega arith in z)
-same_bits (false ∷ xs) (true ∷ ys) l d = absurd (let z : ⊥ = omega arith in z)
-same_bits (false ∷ xs) (false ∷ ys) l d = ap (λ (z : List Bool). false ∷ z) (same_bits xs ys (omega arith) d)
+abbrev Other : Bool → Bool → List Bool → List Bool → Type 0
+Other x y xs ys = (error (x ∷ xs) (y ∷ ys) ≡ 2 ^ length xs + error xs ys) × (differing (x ∷ xs) (y ∷ ys) ≡ suc (differing xs ys))
 
-record One (xs ys : List Bool) (n : ℕ) : Type 0 where
-  at : ℕ
-  low : at < n
-  is : value_from 0 xs ≡ bit_xor (value_from 0 ys) (2 ^ at)
+same_or_other : (x y : Bool) (xs ys : List Bool) → Same x y xs ys ⊎ Other x y xs ys
+same_or_other true true xs ys = inl (omega arith, refl)
+same_or_other true false xs ys = inr (omega arith, refl)
+same_or_other false true xs ys = inr (omega arith, refl)
+same_or_other false false xs ys = inl (omega arith, refl)
 
-record Two (xs ys : List Bool) (n : ℕ) : Type 0 where
-  first : ℕ
-  second : ℕ
-  above : second < first
-  low : first < n
-  is : value_from 0 xs ≡ bit_xor (value_from 0 ys) (bit_xor (2 ^ first) (2 ^ second))
+error_lt : (xs ys : List Bool) → error xs ys < 2 ^ length xs
+error_lt [] ys = omega arith
+error_lt (x ∷ xs) [] = pow_pos (suc (length xs))
+error_lt (x ∷ xs) (y ∷ ys) =
+    let h = error_lt xs ys in
+    let p = pow-suc 2 (length xs) in
+    elim (same_or_other x y xs ys) [ inl a ↦ let e = a.0 in omega arith | inr a ↦ let e = a.0 in omega arith ]
 
-same_head : (n e : ℕ) → 0 * 2 ^ n + e ≡ e
-same_head n e = ap (λ (z : ℕ). z + e) (zero-mul (2 ^ n)) ∙ zero-add e
+error_is : (xs ys : List Bool) → length xs ≡ length ys → value_from 0 xs ≡ bit_xor (value_from 0 ys) (error xs ys)
+error_is [] [] l = refl
+error_is [] (y ∷ ys) l = absurd (omega arith)
+error_is (x ∷ xs) [] l = absurd (omega arith)
+error_is (x ∷ xs) (y ∷ ys) l =
+    let n : ℕ = length xs in
+    let same : length ys ≡ n = omega arith in
+    number_cons x xs ∙ ap₂ (λ (b v : ℕ). b * 2 ^ n + v) (sym (apart_xor x y)) (error_is xs ys (sym same))
+    ∙ sym (xor_block n (bit y) (apart x y) (value_from 0 ys) (error xs ys) (subst (λ (j : ℕ). value_from 0 ys < 2 ^ j) same (value_lt ys)) (error_lt xs ys))
+    ∙ ap (λ (z : ℕ). bit_xor z (error (x ∷ xs) (y ∷ ys))) (sym (number_cons y ys ∙ ap (λ (j : ℕ). bit y * 2 ^ j + value_from 0 ys) same))
 
-one_first : (x y : Bool) (xs ys : List Bool) (n : ℕ) → apart x y ≡ 1 → length xs ≡ n → length ys ≡ n → xs ≡ ys → One (x ∷ xs) (y ∷ ys) (suc n)
-one_first x y xs ys n a lx ly e =
-    record {
-      at = n;
-      low = omega arith;
-      is = more_apart x y xs ys n 0 lx ly (pow_pos n) (ap (λ (z : List Bool). value_from 0 z) e ∙ sym (xor_zero_r (value_from 0 ys)))
-          ∙ ap (bit_xor (value_from 0 (y ∷ ys))) (ap (λ (z : ℕ). z * 2 ^ n + 0) a ∙ add-zero (1 * 2 ^ n) ∙ one-mul (2 ^ n));
-    }
+none_apart : (xs ys : List Bool) → differing xs ys ≡ 0 → error xs ys ≡ 0
+none_apart [] ys d = refl
+none_apart (x ∷ xs) [] d = refl
+none_apart (x ∷ xs) (y ∷ ys) d =
+    elim (same_or_other x y xs ys) [ inl a ↦ a.0 ∙ none_apart xs ys (sym a.1 ∙ d) | inr a ↦ absurd (let e = a.1 in omega arith) ]
 
-one_later : (x y : Bool) (xs ys : List Bool) (n : ℕ) → apart x y ≡ 0 → length xs ≡ n → length ys ≡ n → One xs ys n → One (x ∷ xs) (y ∷ ys) (suc n)
-one_later x y xs ys n a lx ly o =
-    record {
-      at = o.at;
-      low = (let z = o.low in omega arith);
-      is = more_apart x y xs ys n (2 ^ o.at) lx ly (pow-lt o.low) o.is
-          ∙ ap (bit_xor (value_from 0 (y ∷ ys))) (ap (λ (z : ℕ). z * 2 ^ n + 2 ^ o.at) a ∙ same_head n (2 ^ o.at));
-    }
+one_apart : (xs ys : List Bool) → differing xs ys ≡ 1 → (k : ℕ) × (k < length xs) × (error xs ys ≡ 2 ^ k)
+one_apart [] ys d = absurd (omega arith)
+one_apart (x ∷ xs) [] d = absurd (omega arith)
+one_apart (x ∷ xs) (y ∷ ys) d =
+    elim (same_or_other x y xs ys) [
+      | inl a ↦ let r = one_apart xs ys (sym a.1 ∙ d) in let l = r.1 in (r.0, omega arith, a.0 ∙ r.2)
+      | inr a ↦ let e = a.0 in let c = a.1 in let z = none_apart xs ys (omega arith) in (length xs, omega arith, omega arith)
+    ]
 
-one_apart : (n : ℕ) (xs ys : List Bool) → length xs ≡ n → length ys ≡ n → differing xs ys ≡ 1 → One xs ys n
-one_apart n [] ys lx ly d = absurd (let z : ⊥ = omega arith in z)
-one_apart n (x ∷ xs) [] lx ly d = absurd (let z : ⊥ = omega arith in z)
-one_apart zero (x ∷ xs) (y ∷ ys) lx ly d = absurd (let z : ⊥ = omega arith in z)
-one_apart (suc n) (true ∷ xs) (true ∷ ys) lx ly d =
-    one_later true true xs ys n refl (omega arith) (omega arith) (one_apart n xs ys (omega arith) (omega arith) d)
-one_apart (suc n) (true ∷ xs) (false ∷ ys) lx ly d =
-    one_first true false xs ys n refl (omega arith) (omega arith) (same_bits xs ys (omega arith) (omega arith))
-one_apart (suc n) (false ∷ xs) (true ∷ ys) lx ly d =
-    one_first false true xs ys n refl (omega arith) (omega arith) (same_bits xs ys (omega arith) (omega arith))
-one_apart (suc n) (false ∷ xs) (false ∷ ys) lx ly d =
-    one_later false false xs ys n refl (omega arith) (omega arith) (one_apart n xs ys (omega arith) (omega arith) d)
-
-two_first : (x y : Bool) (xs ys : List Bool) (n : ℕ) → apart x y ≡ 1 → length xs ≡ n → length ys ≡ n → One xs ys n → Two (x ∷ xs) (y ∷ ys) (suc n)
-two_first x y xs ys n a lx ly o =
-    record {
-      first = n;
-      second = o.at;
-      above = o.low;
-      low = omega arith;
-      is = more_apart x y xs ys n (2 ^ o.at) lx ly (pow-lt o.low) o.is
-          ∙ ap (bit_xor (value_from 0 (y ∷ ys)))
-          (ap (λ (z : ℕ). z * 2 ^ n + 2 ^ o.at) a ∙ sym (xor_shifted 1 n (2 ^ o.at) (pow-lt o.low)) ∙ ap (λ (z : ℕ). bit_xor z (2 ^ o.at)) (one-mul (2 ^ n)));
-    }
-
-two_later : (x y : Bool) (xs ys : List Bool) (n : ℕ) → apart x y ≡ 0 → length xs ≡ n → length ys ≡ n → Two xs ys n → Two (x ∷ xs) (y ∷ ys) (suc n)
-two_later x y xs ys n a lx ly o =
-    let both : ℕ = bit_xor (2 ^ o.first) (2 ^ o.second) in
-    let under : o.second < n = (let z = o.low in let v = o.above in omega arith) in
-    record {
-      first = o.first;
-      second = o.second;
-      above = o.above;
-      low = (let z = o.low in omega arith);
-      is = more_apart x y xs ys n both lx ly (xor_lt n (2 ^ o.first) (2 ^ o.second) (pow-lt o.low) (pow-lt under)) o.is
-          ∙ ap (bit_xor (value_from 0 (y ∷ ys))) (ap (λ (z : ℕ). z * 2 ^ n + both) a ∙ same_head n both);
-    }
-
-two_apart : (n : ℕ) (xs ys : List Bool) → length xs ≡ n → length ys ≡ n → differing xs ys ≡ 2 → Two xs ys n
-two_apart n [] ys lx ly d = absurd (let z : ⊥ = omega arith in z)
-two_apart n (x ∷ xs) [] lx ly d = absurd (let z : ⊥ = omega arith in z)
-two_apart zero (x ∷ xs) (y ∷ ys) lx ly d = absurd (let z : ⊥ = omega arith in z)
-two_apart (suc n) (true ∷ xs) (true ∷ ys) lx ly d =
-    two_later true true xs ys n refl (omega arith) (omega arith) (two_apart n xs ys (omega arith) (omega arith) d)
-two_apart (suc n) (true ∷ xs) (false ∷ ys) lx ly d =
-    two_first true false xs ys n refl (omega arith) (omega arith) (one_apart n xs ys (omega arith) (omega arith) (omega arith))
-two_apart (suc n) (false ∷ xs) (true ∷ ys) lx ly d =
-    two_first false true xs ys n refl (omega arith) (omega arith) (one_apart n xs ys (omega arith) (omega arith) (omega arith))
-two_apart (suc n) (false ∷ xs) (false ∷ ys) lx ly d =
-    two_later false false xs ys n refl (omega arith) (omega arith) (two_apart n xs ys (omega arith) (omega arith) d)
+two_apart : (xs ys : List Bool) → differing xs ys ≡ 2 → (j : ℕ) × (k : ℕ) × (k < j) × (j < length xs) × (error xs ys ≡ 2 ^ j + 2 ^ k)
+two_apart [] ys d = absurd (omega arith)
+two_apart (x ∷ xs) [] d = absurd (omega arith)
+two_apart (x ∷ xs) (y ∷ ys) d =
+    elim (same_or_other x y xs ys) [
+      | inl a ↦ let r = two_apart xs ys (sym a.1 ∙ d) in let l = r.3 in (r.0, r.1, r.2, omega arith, a.0 ∙ r.4)
+      | inr a ↦ let c = a.1 in let r = one_apart xs ys (omega arith) in (length xs, r.0, r.1, omega arith, a.0 ∙ ap (λ (z : ℕ). 2 ^ length xs + z) r.2)
+    ]
 
 -- ---- a header freed of its samples
 
@@ -165,9 +122,6 @@ codeword : (p x : ℕ) → x < 2 ^ 40 → freed p x ≡ 0 → Codeword (bit_xor 
 codeword p x h c =
     let small : samples p < 2 ^ 40 = (let l = samples_lt p in omega arith) in
     (xor_lt 40 x (samples p) h small, sym (freed_is p x h) ∙ c)
-
-xor_swap_last : (a b c : ℕ) → bit_xor (bit_xor a b) c ≡ bit_xor (bit_xor a c) b
-xor_swap_last a b c = xor_assoc a b c ∙ ap (bit_xor a) (xor_comm b c) ∙ sym (xor_assoc a c b)
 
 module _ (p sent came : ℕ) (hs : sent < 2 ^ 40) (hc : came < 2 ^ 40) (clean : freed p sent ≡ 0) where
   one_bit : (i : ℕ) → i < 40 → came ≡ turned sent i → verdict_at p came ≡ OneWrongBit i
@@ -206,10 +160,10 @@ pub one_wrong_lem : (p : ℕ) (s w : List Bool) → length s ≡ 40 → length w
     → (i : ℕ) × (verdict_at p (value w) ≡ OneWrongBit i) × (mended_in p (value w) i ≡ header_in p (value s))
 unfolding value
 one_wrong_lem p s w ls lw c d =
-    let o = one_apart 40 w s lw ls d in
-    let low : o.at < 40 = o.low in
-    let i : ℕ = 39 - o.at in
-    let e : value_from 0 w ≡ turned (value_from 0 s) i = o.is ∙ ap (bit_xor (value_from 0 s)) (place_of o.at low) in (
+    let o = one_apart w s d in
+    let low : o.0 < 40 = let z = o.1 in omega arith in
+    let i : ℕ = 39 - o.0 in
+    let e : value_from 0 w ≡ turned (value_from 0 s) i = error_is w s (lw ∙ sym ls) ∙ ap (bit_xor (value_from 0 s)) (o.2 ∙ place_of o.0 low) in (
       i,
       one_bit p (value_from 0 s) (value_from 0 w) (value_lt_40 s ls) (value_lt_40 w lw) c i (omega arith) e,
       mended_bit p (value_from 0 s) (value_from 0 w) (value_lt_40 s ls) (value_lt_40 w lw) c i e,
@@ -219,12 +173,14 @@ one_wrong_lem p s w ls lw c d =
 pub two_wrong_lem : (p : ℕ) (s w : List Bool) → length s ≡ 40 → length w ≡ 40 → freed p (value s) ≡ 0 → differing w s ≡ 2 → verdict_at p (value w) ≡ PastMending
 unfolding value
 two_wrong_lem p s w ls lw c d =
-    let o = two_apart 40 w s lw ls d in
-    let high : o.first < 40 = o.low in
-    let below : o.second < o.first = o.above in
-    let i : ℕ = 39 - o.first in
-    let j : ℕ = 39 - o.second in
+    let o = two_apart w s d in
+    let high : o.0 < 40 = let z = o.3 in omega arith in
+    let below : o.1 < o.0 = o.2 in
+    let i : ℕ = 39 - o.0 in
+    let j : ℕ = 39 - o.1 in
+    let two : 2 ^ o.0 + 2 ^ o.1 ≡ bit_xor (2 ^ o.0) (2 ^ o.1) =
+    ap (λ (z : ℕ). z + 2 ^ o.1) (sym (one-mul (2 ^ o.0))) ∙ sym (xor_shifted 1 o.0 (2 ^ o.1) (pow-lt below)) ∙ ap (λ (z : ℕ). bit_xor z (2 ^ o.1)) (one-mul (2 ^ o.0)) in
     let e : value_from 0 w ≡ turned (turned (value_from 0 s) i) j =
-    o.is ∙ ap₂ (λ (y z : ℕ). bit_xor (value_from 0 s) (bit_xor y z)) (place_of o.first high) (place_of o.second (omega arith))
+    error_is w s (lw ∙ sym ls) ∙ ap (bit_xor (value_from 0 s)) (o.4 ∙ two ∙ ap₂ bit_xor (place_of o.0 high) (place_of o.1 (omega arith)))
     ∙ sym (xor_assoc (value_from 0 s) (place i) (place j)) in
     two_bits p (value_from 0 s) (value_from 0 w) (value_lt_40 s ls) (value_lt_40 w lw) c i j (omega arith) (omega arith) (λ z. omega arith) e

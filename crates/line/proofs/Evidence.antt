@@ -2,7 +2,7 @@
 -- Knows of the check octet and the generator only that what the finder answers is the one phase with these samples.
 --
 --   AgreeingRow c hs  the c headers in front of hs agree
---   Gave n p hs       sixteen in a row gave the phase, which has been moved on to p; at least n - 16 headers after them came as predicted
+--   Gave n p hs       sixteen in a row gave a phase, which has been moved on to p; at least n - 16 headers after them came as predicted
 --   Knows d hs        what the descrambler's state d says of the headers hs
 --   Keeps u hs        u are the samples of the headers hs, as far as they are kept
 use Rattle.std.proofs.Common.{◌≡◌, ℕ, suc, ◌+◌, ◌-◌, ◌*◌, ◌%◌, ◌^◌, ◌≤◌, Bool, true, false, cond, eqb, ltb, List, [], ◌∷◌, ◌++◌, length, Ok, Err, Result, sym, refl, ap, ◌∙◌, subst, mul_assoc, pow-suc, arith, ltb-false, ltb-true}
@@ -14,7 +14,7 @@ use Rattle.tracker.specs.declared.state.Descrambler.{Descrambler}
 use Rattle.tracker.specs.declared.state.Descrambler.TheVariants.{Acquisition, Verification, Steady}
 use Rattle.tracker.specs.Window.{agrees, samples_in, predicted, freed, sample_fault}
 use Rattle.tracker.specs.Rules.{found_phase, acquire, verify, hold, descrambler_after, sampled}
-use Rattle.line.specs.Headers.{Preceded, phase_on, as_predicted, samples_from}
+use Rattle.line.specs.Headers.{Sixteen, Preceded, phase_on, as_predicted, samples_from}
 use Rattle.line.proofs.CodeLaws.{CodeLaws}
 
 pub record AgreeingRow (c : ℕ) (hs : List ℕ) : Type 0 where
@@ -26,16 +26,9 @@ pub record AgreeingRow (c : ℕ) (hs : List ℕ) : Type 0 where
   pub most : c ≤ 15
 
 pub record Gave (n : ℕ) (p : ℕ) (hs : List ℕ) : Type 0 where
-  pub later : List ℕ
-  pub sixteen : List ℕ
-  pub earlier : List ℕ
-  pub split : hs ≡ later ++ (sixteen ++ earlier)
-  pub count : length sixteen ≡ 16
-  pub agree : AllByRecursion (λ h. agrees h ≡ true) sixteen
-  pub phase : ℕ
-  pub gave : OnePhase (samples_from sixteen % 2 ^ 31) phase
-  pub moved : p ≡ phase_on phase later
-  pub eight : n ≤ 16 + as_predicted phase later
+  pub sixteen : Sixteen hs
+  pub moved : p ≡ phase_on sixteen.phase sixteen.later
+  pub eight : n ≤ 16 + as_predicted sixteen.phase sixteen.later
 
 abbrev pub Knows : Descrambler → List ℕ → Type 0
 Knows (Acquisition c) hs = AgreeingRow c hs
@@ -46,33 +39,27 @@ row_none : (hs : List ℕ) → AgreeingRow 0 hs
 row_none hs = record { row = []; earlier = hs; split = refl; count = refl; agree = tt; most = omega arith }
 
 pub preceded : (p : ℕ) (hs : List ℕ) → Gave 24 p hs → Preceded hs
-preceded p hs g = record {
-  later = g.later;
-  sixteen = g.sixteen;
-  earlier = g.earlier;
-  split = g.split;
-  count = g.count;
-  agree = g.agree;
-  phase = g.phase;
-  gave = g.gave;
-  eight = omega arith;
-}
+preceded p hs g = record { sixteen = g.sixteen; eight = omega arith }
 
 -- one header more, of which the count needs n
-gave_more : (n n' : ℕ) (p : ℕ) (hs : List ℕ) (w : ℕ) (g : Gave n p hs) → n' ≤ 16 + as_predicted g.phase (w ∷ g.later)
+gave_more : (n n' : ℕ) (p : ℕ) (hs : List ℕ) (w : ℕ) (g : Gave n p hs) → n' ≤ 16 + as_predicted g.sixteen.phase (w ∷ g.sixteen.later)
     → Gave n' (next_phase p) (w ∷ hs)
-gave_more n n' p hs w g h = record {
-  later = w ∷ g.later;
-  sixteen = g.sixteen;
-  earlier = g.earlier;
-  split = ap (λ l. w ∷ l) g.split;
-  count = g.count;
-  agree = g.agree;
-  phase = g.phase;
-  gave = g.gave;
-  moved = ap next_phase g.moved;
-  eight = h;
-}
+gave_more n n' p hs w g h =
+    let s = g.sixteen in
+    record {
+      sixteen = record {
+        later = w ∷ s.later;
+        row = s.row;
+        earlier = s.earlier;
+        split = ap (λ l. w ∷ l) s.split;
+        count = s.count;
+        agree = s.agree;
+        phase = s.phase;
+        gave = s.gave;
+      };
+      moved = ap next_phase g.moved;
+      eight = h;
+    }
 
 -- ---- the samples kept are those of the last headers
 
@@ -111,18 +98,12 @@ last_samples u hs row earlier w s c k =
 knows_found : (o : Result ℕ Refusal) (row earlier : List ℕ) (w : ℕ) → length row ≡ 15 → AllByRecursion (λ h. agrees h ≡ true) (w ∷ row)
     → ((p : ℕ) → o ≡ Ok p → OnePhase (samples_from (w ∷ row) % 2 ^ 31) p) → Knows (found_phase o) (w ∷ (row ++ earlier))
 knows_found (Err e) row earlier w c a f = row_none (w ∷ (row ++ earlier))
-knows_found (Ok p) row earlier w c a f = record {
-  later = [];
-  sixteen = w ∷ row;
-  earlier = earlier;
-  split = refl;
-  count = ap suc c;
-  agree = a;
-  phase = p;
-  gave = f p refl;
-  moved = refl;
-  eight = omega arith;
-}
+knows_found (Ok p) row earlier w c a f =
+    record {
+      sixteen = record { later = []; row = w ∷ row; earlier = earlier; split = refl; count = ap suc c; agree = a; phase = p; gave = f p refl };
+      moved = refl;
+      eight = omega arith;
+    }
 
 module _ (laws : CodeLaws) where
   knows_row : (t : Bool) (c : ℕ) (hs : List ℕ) (u w : ℕ) → agrees w ≡ true → ltb (c + 1) 16 ≡ t → Keeps u hs → AgreeingRow c hs
@@ -150,7 +131,7 @@ module _ (laws : CodeLaws) where
   fewer true c p hs w g = gave_more c (c - 1) p hs w g (omega arith)
   fewer false c p hs w g = row_none (w ∷ hs)
 
-  more : (t : Bool) (c p : ℕ) (hs : List ℕ) (w : ℕ) → ltb (c + 1) 24 ≡ t → (g : Gave c p hs) → c + 1 ≤ 16 + as_predicted g.phase (w ∷ g.later)
+  more : (t : Bool) (c p : ℕ) (hs : List ℕ) (w : ℕ) → ltb (c + 1) 24 ≡ t → (g : Gave c p hs) → c + 1 ≤ 16 + as_predicted g.sixteen.phase (w ∷ g.sixteen.later)
       → Knows (cond t (Verification (c + 1) (next_phase p)) (Steady 24 (next_phase p))) (w ∷ hs)
   more false c p hs w e g h = gave_more c 24 p hs w g (let f = ltb-false (c + 1) 24 e in omega arith)
   more true c p hs w e g h = gave_more c (c + 1) p hs w g h

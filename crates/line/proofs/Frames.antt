@@ -2,7 +2,8 @@
 --
 --   frames xs       the cells of sends, each as header and payload
 --   from_cell d xs  what the sends xs offer, one after the other, where the first d of them offer nothing
-use Rattle.std.proofs.Common.{◌≡◌, ℕ, zero, suc, ◌≤◌, Bool, true, false, cond, eqb, List, [], ◌∷◌, ◌++◌, map, length, get_or, take, drop, Some, None, Option, sym, refl, ap, ◌∙◌, arith}
+use Rattle.std.proofs.Common.{◌≡◌, ℕ, zero, suc, ◌≤◌, nat_eq, List, [], ◌∷◌, ◌++◌, length, get_or, take, drop, Some, None, Option, sym, refl, ap, ◌∙◌, arith}
+use Rattle.std.proofs.lemmas.List.Elements.{filter-append}
 use Rattle.cell.specs.Header.{connection_of}
 use Rattle.cell.specs.declared.header.Kind.TheVariants.{User}
 use Rattle.ports.specs.Cell.{Cell, of_connection}
@@ -31,18 +32,6 @@ sized_frames laws (x ∷ xs) q e = (header_long_lem laws e.0, payload_long_lem l
 
 -- ---- user cells
 
-of_cons : (k : ℕ) (c : Cell) (cs ds es : List Cell) → of_connection k es ≡ of_connection k cs ++ ds
-    → of_connection k (c ∷ es) ≡ of_connection k (c ∷ cs) ++ ds
-of_cons k c cs ds es e = go (eqb (connection_of c.header) k)
-  where
-    go : (t : Bool) → cond t (c ∷ of_connection k es) (of_connection k es) ≡ cond t (c ∷ of_connection k cs) (of_connection k cs) ++ ds
-    go true = ap (λ z. c ∷ z) e
-    go false = e
-
-of_append : (k : ℕ) (cs ds : List Cell) → of_connection k (cs ++ ds) ≡ of_connection k cs ++ of_connection k ds
-of_append k [] ds = refl
-of_append k (c ∷ cs) ds = of_cons k c cs (of_connection k ds) (cs ++ ds) (of_append k cs ds)
-
 gained_listed : (k : ℕ) (o : Option Cell) → gained k o ≡ of_connection k (listed o)
 gained_listed k None = refl
 gained_listed k (Some c) = refl
@@ -53,16 +42,12 @@ sent_gained k {x = x} f = gained_listed k (sent_user x) ∙ ap (of_connection k)
 
 users_append : (k : ℕ) {q : ℕ} {x : Send} (xs : List Send) → Carried q x
     → gained k (sent_user x) ++ of_connection k (sent_users xs) ≡ of_connection k (sent_users (x ∷ xs))
-users_append k {x = x} xs f = ap (λ z. z ++ of_connection k (sent_users xs)) (sent_gained k f) ∙ sym (of_append k (lost x) (sent_users xs))
+users_append k {x = x} xs f = ap (λ z. z ++ of_connection k (sent_users xs)) (sent_gained k f) ∙ sym (filter-append (λ (c : Cell). nat_eq (connection_of c.header) k) (lost x) (sent_users xs))
 
 abbrev pub from_cell : ℕ → List Send → List (Option Cell)
-from_cell zero xs = map sent_user xs
-from_cell (suc d) [] = []
+from_cell d [] = []
+from_cell zero (x ∷ xs) = sent_user x ∷ from_cell zero xs
 from_cell (suc d) (x ∷ xs) = None ∷ from_cell d xs
-
-pub from_none : (d : ℕ) → from_cell d [] ≡ []
-from_none zero = refl
-from_none (suc d) = refl
 
 pub from_gained : (k d m : ℕ) (xs : List Send) (q : ℕ) → CarriedOn q xs
     → gained_all k (take m (from_cell d xs)) ≡ of_connection k (sent_users (drop d (take m xs)))

@@ -3,33 +3,37 @@
 --
 --   between x ys  what comes after the header of x up to the end of the last header of ys
 --   Locked s q    after a header, in SYNC with no header wrong, and in Steady with confidence 24 and the phase q
+--   nine e        nine more than e
+--   Acquires      a right header is in, before the payload of x: the c-th right one since the hunt, or the 24th or a later one. What is offered
+--                 over this payload and the cells ys after it, and that the end is locked after 24 right headers
 --   Caught x      the bits of the header of x, the last apart, and the state that they lead a new end to
-use Rattle.std.proofs.Common.{◌≡◌, ℕ, zero, suc, ◌+◌, ◌%◌, ◌^◌, ◌<◌, ◌≤◌, Bool, true, false, cond, eqb, ltb, List, [], ◌∷◌, ◌++◌, length, None, Option, sym, refl, ap, ◌∙◌, subst, append_assoc, append-nil, arith, length-append, le-ltb, lt-ltb, ne_eqb}
+use Rattle.std.proofs.Common.{◌≡◌, ℕ, zero, suc, ◌+◌, ◌^◌, ◌<◌, ◌≤◌, Bool, true, false, cond, eqb, ltb, List, [], ◌∷◌, ◌++◌, length, None, Option, sym, refl, ap, ◌∙◌, subst, append_assoc, append-nil, arith, length-append, le-ltb, lt-ltb, ne_eqb}
 use Rattle.cell.specs.declared.header.Header as headers
-use Rattle.scrambler.specs.Finder.{found}
 use Rattle.scrambler.specs.Generator.{next_phase}
+use Rattle.ports.specs.Cell.{Cell}
 use Rattle.sender.specs.Stream.{Send, line_of}
 use Rattle.tracker.specs.declared.state.Mode.{Mode}
 use Rattle.tracker.specs.declared.state.Mode.TheVariants.{Correction}
 use Rattle.tracker.specs.declared.state.Delineation.TheVariants.{Presync}
-use Rattle.tracker.specs.declared.state.Descrambler.TheVariants.{Acquisition}
 use Rattle.tracker.specs.declared.state.Lock.{Lock}
 use Rattle.tracker.specs.declared.state.Place.TheVariants.{Hunt, Payload}
 use Rattle.tracker.specs.declared.state.Control.{Control}
 use Rattle.tracker.specs.declared.tracker.Tracker.{Tracker}
 use Rattle.tracker.specs.Window.{agrees, counted, shifted}
-use Rattle.tracker.specs.Rules.{found_phase, sampled, headed, locked_on}
+use Rattle.tracker.specs.Rules.{sampled, headed, locked_on}
 use Rattle.tracker.specs.Tracker.{start, hunted, control_after}
-use Rattle.receiver.specs.Run.{bits_of, step, after}
+use Rattle.receiver.specs.Run.{bits_of, step, after, user_cell}
 use Rattle.receiver.proofs.Runs.{after-append, bits_of-append}
 use Rattle.line.specs.Headers.{hunting}
 use Rattle.line.specs.Laws.{header_bits, payload_bits}
 use Rattle.line.proofs.Bits.{value, window_header}
 use Rattle.line.proofs.Carried.{Carried, CarriedOn}
-use Rattle.line.proofs.Cells.{at, At, long_run, Cut, cut_bits, nil_of, synced}
+use Rattle.line.proofs.CellOffers.{cell_from}
+use Rattle.line.proofs.Cells.{at, At, long_run, Ended, ended, nil_of, synced}
 use Rattle.line.proofs.CodeLaws.{CodeLaws, moved, trail}
-use Rattle.line.proofs.SentHeaders.{steady, verifying, acquiring, bound_at, bound_next, verify_next, verify_last, acquire_next, sampled_trail, sampled_first, steady_sent}
-use Rattle.line.proofs.Offers.{whole_of}
+use Rattle.line.proofs.Frames.{frames, from_cell}
+use Rattle.line.proofs.SentHeaders.{steady, verifying, acquiring, bound_at, verify_next, verify_last, sampled_first, steady_sent, sent_up, acquired_sent, found_sent}
+use Rattle.line.proofs.Offers.{Brings, whole_of}
 use Rattle.line.proofs.Sends.{cell_bits, moved_next, header_long_lem, payload_long_lem, header_agrees, header_samples}
 
 abbrev pub between : Send → List Send → List Bool
@@ -56,6 +60,10 @@ pub record Locked (s : Tracker) (q : ℕ) : Type 0 where
   pub samples : ℕ
   pub is : At s mode (Payload 47 7 kept (synced 0 24 q samples))
 
+pub record Acquires (m : Mode) (k : Option headers.Header) (l : Lock) (x : Send) (ys : List Send) (q c : ℕ) (us : List (Option Cell)) : Type 0 where
+  pub brings : Brings m k l (payload_bits x) (frames ys) us
+  pub locks : 24 ≤ c + length ys → (s : Tracker) → At s m (Payload 47 7 k l) → Locked (after s (between x ys)) (moved (length ys) q)
+
 pub record Caught (x : Send) : Type 0 where
   pub front : List Bool
   pub last : Bool
@@ -63,6 +71,10 @@ pub record Caught (x : Send) : Type 0 where
   pub hunts : hunting (after start front).control.place ≡ true
   pub ends : hunting (step (after start front) last).control.place ≡ false
   pub place : At (after start (header_bits x)) Correction (Payload 47 7 None (locked_on (value (header_bits x))))
+
+abbrev pub nine : ℕ → ℕ
+nine zero = 9
+nine (suc e) = suc (nine e)
 
 -- ---- while the hunt goes on
 
@@ -112,101 +124,73 @@ cell_on s m k l x y c lx ly a e =
     (ap (λ (z : List Bool). (after s z).control) (sym is) ∙ v.control ∙ e, ap (λ (z : List Bool). length (after s z).payload) (sym is) ∙ v.octets)
 
 module _ (laws : CodeLaws) where
-  -- from one header to the next, and to those after it
-  onward : (s : Tracker) (m m' : Mode) (k k' : Option headers.Header) (l l' : Lock) (x y : Send) (ys : List Send) (q p : ℕ) → CarriedOn q (x ∷ y ∷ ys)
-      → At s m (Payload 47 7 k l) → headed m l (value (header_bits y)) ≡ at m' (Payload 47 7 k' l')
-      → ((t : Tracker) → At t m' (Payload 47 7 k' l') → Locked (after t (between y ys)) (moved (length ys) (next_phase p)))
-      → Locked (after s (between x (y ∷ ys))) (moved (suc (length ys)) p)
-  onward s m m' k k' l l' x y ys q p f a e next =
-      let c = cell_on s m k l x y (at m' (Payload 47 7 k' l')) (payload_long_lem laws f.0) (header_long_lem laws f.1.0) a e in
-      let t : Tracker = after s (payload_bits x ++ header_bits y) in
-      let r : Locked (after t (between y ys)) (moved (length ys) (next_phase p)) = next t (record { control = c.0; long = c.1 }) in
-      subst (λ (z : Tracker). Locked z (moved (suc (length ys)) p)) (sym (after-append s (payload_bits x ++ header_bits y) (between y ys)))
-      (subst (Locked (after t (between y ys))) (moved_next (length ys) p) r)
+  -- from one header to the next
+  onward : (m m' : Mode) (k k' : Option headers.Header) (l l' : Lock) (x y : Send) (ys : List Send) (q c c' : ℕ) (us : List (Option Cell)) → CarriedOn q (x ∷ y ∷ ys)
+      → headed m l (value (header_bits y)) ≡ at m' (Payload 47 7 k' l') → (24 ≤ c + suc (length ys) → 24 ≤ c' + length ys) → Acquires m' k' l' y ys (next_phase q) c' us
+      → Acquires m k l x (y ∷ ys) q c (user_cell (cell_from k l (payload_bits x)) ∷ us)
+  onward m m' k k' l l' x y ys q c c' us f e more r =
+      record {
+        brings = (m', k', l', us, e, refl, r.brings);
+        locks = λ h s a.
+            let n = cell_on s m k l x y (at m' (Payload 47 7 k' l')) (payload_long_lem laws f.0) (header_long_lem laws f.1.0) a e in
+            let t : Tracker = after s (payload_bits x ++ header_bits y) in
+            subst (λ (z : Tracker). Locked z (moved (suc (length ys)) q)) (sym (after-append s (payload_bits x ++ header_bits y) (between y ys)))
+            (subst (Locked (after t (between y ys))) (moved_next (length ys) q) (r.locks (more h) t (record { control = n.0; long = n.1 })));
+      }
 
-  steady_run : (ys : List Send) (x : Send) (q : ℕ) (s : Tracker) (m : Mode) (k : Option headers.Header) (u : ℕ) → CarriedOn q (x ∷ ys)
-      → At s m (Payload 47 7 k (steady q u)) → Locked (after s (between x ys)) (moved (length ys) q)
-  steady_run [] x q s m k u f a = record { mode = m; kept = k; samples = u; is = a }
-  steady_run (y ∷ ys) x q s m k u f a =
-      onward s m Correction k _ (steady q u) _ x y ys q q f a (steady_sent laws q m u y f.1.0)
-      (λ t b. steady_run ys y (next_phase q) t Correction _ _ f.1 b)
+  steady_on : (ys : List Send) (x : Send) (q : ℕ) (m : Mode) (k : Option headers.Header) (u : ℕ) → CarriedOn q (x ∷ ys)
+      → Acquires m k (steady q u) x ys q 24 (user_cell (cell_from k (steady q u) (payload_bits x)) ∷ from_cell 0 ys)
+  steady_on [] x q m k u f = record { brings = refl; locks = λ h s a. record { mode = m; kept = k; samples = u; is = a } }
+  steady_on (y ∷ ys) x q m k u f =
+      subst (λ (z : Option Cell). Acquires m k (steady q u) x (y ∷ ys) q 24 (user_cell (cell_from k (steady q u) (payload_bits x)) ∷ z ∷ from_cell 0 ys))
+      (sent_up laws (next_phase q) y 0 24 (sampled u (value (header_bits y))) f.1.0)
+      (onward m Correction k _ (steady q u) _ x y ys q 24 24 _ f (steady_sent laws q m u y f.1.0) (λ h. omega arith) (steady_on ys y (next_phase q) Correction _ _ f.1))
 
-  verify_run : (ys : List Send) (d : ℕ) (x : Send) (q : ℕ) (s : Tracker) (m : Mode) (c u : ℕ) → c + suc d ≡ 24 → suc d ≤ length ys → CarriedOn q (x ∷ ys)
-      → At s m (Payload 47 7 None (verifying c q u)) → Locked (after s (between x ys)) (moved (length ys) q)
-  verify_run [] d x q s m c u n h f a = absurd (omega arith)
-  verify_run (y ∷ ys) zero x q s m c u n h f a =
-      onward s m Correction None _ (verifying c q u) _ x y ys q q f a
+  -- the cell whose header brought Steady is not handed up
+  verify_on : (ys : List Send) (d : ℕ) (x : Send) (q : ℕ) (m : Mode) (c u : ℕ) → c + suc d ≡ 24 → CarriedOn q (x ∷ ys)
+      → Acquires m None (verifying c q u) x ys q c (from_cell (suc (suc d)) (x ∷ ys))
+  verify_on [] d x q m c u n f = record { brings = refl; locks = λ h s a. absurd (omega arith) }
+  verify_on (y ∷ ys) zero x q m c u n f =
+      onward m Correction None None (verifying c q u) _ x y ys q c 24 (from_cell 1 (y ∷ ys)) f
       (verify_last c q m u (value (header_bits y)) (header_agrees laws f.1.0) (header_samples laws f.1.0) (le-ltb (c + 1) 24 (omega arith)))
-      (λ t b. steady_run ys y (next_phase q) t Correction None _ f.1 b)
-  verify_run (y ∷ ys) (suc d) x q s m c u n h f a =
-      onward s m m None _ (verifying c q u) _ x y ys q q f a
+      (λ h. omega arith) (steady_on ys y (next_phase q) Correction None _ f.1)
+  verify_on (y ∷ ys) (suc d) x q m c u n f =
+      onward m m None None (verifying c q u) _ x y ys q c (c + 1) (from_cell (suc (suc d)) (y ∷ ys)) f
       (verify_next c q m u (value (header_bits y)) (header_agrees laws f.1.0) (header_samples laws f.1.0) (lt-ltb (c + 1) 24 (omega arith)))
-      (λ t b. verify_run ys d y (next_phase q) t m (c + 1) _ (omega arith) (omega arith) f.1 b)
+      (λ h. omega arith) (verify_on ys d y (next_phase q) m (c + 1) _ (omega arith) f.1)
 
-  -- the header y is that of the cell i + 1, after one that agreed and was the cell i
-  acquired_sent : (m : Mode) (i q : ℕ) (y : Send) → i < 14 → Carried (moved (suc i) q) y
-      → headed m (acquiring (bound_at (i + 1)) (i + 1) (trail i q)) (value (header_bits y)) ≡ at m (Payload 47 7 None (acquiring (bound_at (suc i + 1)) (suc i + 1) (trail (suc i) q)))
-  acquired_sent m i q y n f =
-      let w : ℕ = value (header_bits y) in
-      let t : ltb (i + 1 + 1) 16 ≡ true = lt-ltb (i + 1 + 1) 16 (omega arith) in
-      let l : i + 1 ≡ suc i = omega arith in
-      let u : sampled (trail i q) w ≡ trail (suc i) q = sampled_trail i q w (header_samples laws f) in
-      acquire_next (bound_at (i + 1)) (bound_at (i + 1 + 1)) m (i + 1) (trail i q) w (bound_next (i + 1) (omega arith)) (header_agrees laws f)
-      ∙ ap (λ z. at m (Payload 47 7 None (record { delineation = bound_at (i + 1 + 1); descrambler = cond z (Acquisition (i + 1 + 1)) (found_phase (found (sampled (trail i q) w % 2 ^ 31))); samples = sampled (trail i q) w }))) t
-      ∙ ap (λ z. at m (Payload 47 7 None (record { delineation = bound_at (i + 1 + 1); descrambler = Acquisition (i + 1 + 1); samples = z }))) u
-      ∙ ap (λ z. at m (Payload 47 7 None (record { delineation = bound_at (z + 1); descrambler = Acquisition (z + 1); samples = trail (suc i) q }))) l
-
-  -- the sixteenth header gives the phase
-  found-sent : (m : Mode) (q : ℕ) (y : Send) → q < 2 ^ 31 → Carried (moved 15 q) y
-      → headed m (acquiring (bound_at (14 + 1)) (14 + 1) (trail 14 q)) (value (header_bits y)) ≡ at m (Payload 47 7 None (verifying 16 (moved 15 q) (trail 15 q)))
-  found-sent m q y h f =
-      let w : ℕ = value (header_bits y) in
-      let u : sampled (trail 14 q) w ≡ trail 15 q = sampled_trail 14 q w (header_samples laws f) in
-      acquire_next (bound_at 15) (bound_at 16) m 15 (trail 14 q) w (bound_next 15 (omega arith)) (header_agrees laws f)
-      ∙ ap (λ z. at m (Payload 47 7 None (record { delineation = bound_at 16; descrambler = found_phase (found (z % 2 ^ 31)); samples = z }))) u
-      ∙ ap (λ z. at m (Payload 47 7 None (record { delineation = bound_at 16; descrambler = found_phase z; samples = trail 15 q }))) (laws.finds q h)
-
-  acquire_run : (ys : List Send) (e : ℕ) (x : Send) (q i : ℕ) (s : Tracker) (m : Mode) → i + e ≡ 14 → e + 9 ≤ length ys → q < 2 ^ 31 → CarriedOn (moved i q) (x ∷ ys)
-      → At s m (Payload 47 7 None (acquiring (bound_at (i + 1)) (i + 1) (trail i q))) → Locked (after s (between x ys)) (moved (length ys) (moved i q))
-  acquire_run [] e x q i s m n h g f a = absurd (omega arith)
-  acquire_run (y ∷ ys) zero x q i s m n h g f a = go i (let z : i ≡ 14 = omega arith in z) f a
-    where
-      go : (i : ℕ) → i ≡ 14 → CarriedOn (moved i q) (x ∷ y ∷ ys) → At s m (Payload 47 7 None (acquiring (bound_at (i + 1)) (i + 1) (trail i q)))
-          → Locked (after s (between x (y ∷ ys))) (moved (suc (length ys)) (moved i q))
-      go i l f a =
-          let f' : CarriedOn (moved 14 q) (x ∷ y ∷ ys) = subst (λ (z : ℕ). CarriedOn (moved z q) (x ∷ y ∷ ys)) l f in
-          let a' : At s m (Payload 47 7 None (acquiring (bound_at (14 + 1)) (14 + 1) (trail 14 q))) =
-          subst (λ (z : ℕ). At s m (Payload 47 7 None (acquiring (bound_at (z + 1)) (z + 1) (trail z q)))) l a in
-          subst (λ (z : ℕ). Locked (after s (between x (y ∷ ys))) (moved (suc (length ys)) (moved z q))) (sym l)
-          (onward s m m None None _ (verifying 16 (moved 15 q) (trail 15 q)) x y ys (moved 14 q) (moved 14 q) f' a' (found-sent m q y g f'.1.0)
-          (λ t b. verify_run ys 7 y (moved 15 q) t m 16 (trail 15 q) refl (omega arith) f'.1 b))
-  acquire_run (y ∷ ys) (suc e) x q i s m n h g f a =
-      onward s m m None None _ (acquiring (bound_at (suc i + 1)) (suc i + 1) (trail (suc i) q)) x y ys (moved i q) (moved i q) f a (acquired_sent m i q y (omega arith) f.1.0)
-      (λ t b. acquire_run ys e y q (suc i) t m (omega arith) (omega arith) g f.1 b)
+  -- x is the cell i
+  pub acquire_on : (ys : List Send) (e : ℕ) (x : Send) (q : ℕ) (m : Mode) (i : ℕ) → i + e ≡ 14 → q < 2 ^ 31 → CarriedOn (moved i q) (x ∷ ys)
+      → Acquires m None (acquiring (bound_at (i + 1)) (i + 1) (trail i q)) x ys (moved i q) (i + 1) (from_cell (suc (nine e)) (x ∷ ys))
+  acquire_on [] e x q m i n h f = record { brings = refl; locks = λ g s a. absurd (omega arith) }
+  acquire_on (y ∷ ys) zero x q m i n h f =
+      onward m m None None (acquiring (bound_at (i + 1)) (i + 1) (trail i q)) _ x y ys (moved i q) (i + 1) 16 (from_cell 9 (y ∷ ys)) f
+      (found_sent laws m i q y (omega arith) h f.1.0)
+      (λ g. omega arith) (verify_on ys 7 y (moved (suc i) q) m 16 (trail (suc i) q) refl f.1)
+  acquire_on (y ∷ ys) (suc e) x q m i n h f =
+      onward m m None None (acquiring (bound_at (i + 1)) (i + 1) (trail i q)) _ x y ys (moved i q) (i + 1) (suc i + 1) (from_cell (suc (nine e)) (y ∷ ys)) f
+      (acquired_sent laws m i q y (omega arith) f.1.0)
+      (λ g. omega arith) (acquire_on ys e y q m (suc i) (omega arith) h f.1)
 
   -- ---- from the first bit on
 
   pub caught : (x : Send) (q : ℕ) → Carried q x → Caught x
-  caught x q f = go (cut_bits 39 (header_bits x) (let l = header_long_lem laws f in omega arith))
-    where
-      go : Cut 39 (header_bits x) → Caught x
-      go c =
-          let w : ℕ = value (header_bits x) in
-          let none : c.back ≡ [] = nil_of c.back (let z = ap length c.is ∙ length-append c.front (c.last ∷ c.back) in let r = c.long in let l = header_long_lem laws f in omega arith) in
-          let is : header_bits x ≡ c.front ++ c.last ∷ [] = c.is ∙ ap (λ (z : List Bool). c.front ++ c.last ∷ z) none in
-          let s : Tracker = after start c.front in
-          let st : after start (header_bits x) ≡ step s c.last = ap (after start) is ∙ after-append start c.front (c.last ∷ []) in
-          let hunt : Hunts s 39 = hunts_run c.front start 0 39 (let r = c.long in omega arith) (omega arith) (record { control = refl; come = refl }) in
-          let win : (step s c.last).window.bits ≡ w = ap (λ (z : Tracker). z.window.bits) (sym st) ∙ window_header (header_bits x) start (header_long_lem laws f) in
-          let on : (step s c.last).control ≡ at Correction (Payload 47 7 None (locked_on w)) = hunt_found s c.last w hunt win (header_agrees laws f) in
-          record {
-            front = c.front;
-            last = c.last;
-            is = is;
-            hunts = ap (λ (z : Control). hunting z.place) hunt.control;
-            ends = ap (λ (z : Control). hunting z.place) on;
-            place = record { control = ap (λ (z : Tracker). z.control) st ∙ on; long = long_run (header_bits x) start };
-          }
+  caught x q f =
+      let w : ℕ = value (header_bits x) in
+      let c : Ended 39 (header_bits x) = ended 39 (header_bits x) (header_long_lem laws f) in
+      let s : Tracker = after start c.front in
+      let st : after start (header_bits x) ≡ step s c.last = ap (after start) c.is ∙ after-append start c.front (c.last ∷ []) in
+      let hunt : Hunts s 39 = hunts_run c.front start 0 39 (let r = c.long in omega arith) (omega arith) (record { control = refl; come = refl }) in
+      let win : (step s c.last).window.bits ≡ w = ap (λ (z : Tracker). z.window.bits) (sym st) ∙ window_header (header_bits x) start (header_long_lem laws f) in
+      let on : (step s c.last).control ≡ at Correction (Payload 47 7 None (locked_on w)) = hunt_found s c.last w hunt win (header_agrees laws f) in
+      record {
+        front = c.front;
+        last = c.last;
+        is = c.is;
+        hunts = ap (λ (z : Control). hunting z.place) hunt.control;
+        ends = ap (λ (z : Control). hunting z.place) on;
+        place = record { control = ap (λ (z : Tracker). z.control) st ∙ on; long = long_run (header_bits x) start };
+      }
 
   -- twenty-three headers after the first, and more
   pub locked : (x : Send) (ys : List Send) (q : ℕ) → CarriedOn q (x ∷ ys) → 23 ≤ length ys → Locked (after start (header_bits x ++ between x ys)) (moved (length ys) q)
@@ -218,4 +202,4 @@ module _ (laws : CodeLaws) where
         long = c.place.long;
       } in
       subst (λ (t : Tracker). Locked t (moved (length ys) q)) (sym (after-append start (header_bits x) (between x ys)))
-      (acquire_run ys 14 x q 0 (after start (header_bits x)) Correction refl n f.0.fits f a)
+      ((acquire_on ys 14 x q Correction 0 refl f.0.fits f).locks (omega arith) (after start (header_bits x)) a)

@@ -21,12 +21,13 @@ use Rattle.receiver.specs.declared.receiver.Receiver.{Receiver}
 use Rattle.receiver.specs.Book.{Log, log_run}
 use Rattle.receiver.specs.Feed.{Events, Feeds, log, made}
 use Rattle.receiver.specs.Handing.{Reply, Moment, bits, Handed, Along, taken_in}
-use Rattle.receiver.specs.Run.{bits_of, step, after, cell_in, kept_cell, user_by, user_cell, offered}
+use Rattle.receiver.specs.Run.{bits_of, step, after, cell_in, kept_cell, user_cell, offered}
 use Rattle.line.specs.Heard.{ReadyAt}
 use Rattle.line.specs.Receiving as receiving
 use Rattle.line.specs.Receiving.{History, heard}
 use Rattle.line.proofs.Bits.{length-bits_of}
 use Rattle.line.proofs.Cells.{long_run}
+use Rattle.line.proofs.Sends.{user_is}
 
 -- ---- the sink
 
@@ -79,18 +80,13 @@ hands_roomy (Some c) k n f r = (puts_roomy c k n (f c refl) r, record { serves =
 
 -- ---- the cells that are offered
 
-user_by_lem : (k : Kind) (d c : Cell) → user_by k d ≡ Some c → (k ≡ User) × (d ≡ c)
-user_by_lem Idle d c e = absurd (let z : ◌≡◌ {A = ℕ} 0 1 = cc in omega arith)
-user_by_lem F3 d c e = absurd (let z : ◌≡◌ {A = ℕ} 0 1 = cc in omega arith)
-user_by_lem User d c e = (refl, cc)
-
 not_reserved : (h : ℕ) → kind_of h ≡ User → reserved h ≡ false
 not_reserved h e = ap (λ (k : Kind). elim k [ Idle ↦ true | F3 ↦ true | User ↦ false ]) e
 
 fit_user : (o : Option Cell) → ((d : Cell) → o ≡ Some d → length d.payload ≡ 48) → (c : Cell) → user_cell o ≡ Some c → Fit c
 fit_user None f c e = absurd (let z : ◌≡◌ {A = ℕ} 0 1 = cc in omega arith)
 fit_user (Some d) f c e =
-    let u = user_by_lem (kind_of d.header) d c e in
+    let u = user_is (kind_of d.header) d c e in
     subst Fit u.1 (record { user = not_reserved d.header u.0; whole = f d refl })
 
 kept_payload : (x : Option Brought) (p : List ℕ) (d : Cell) → cell_in x p ≡ Some d → p ≡ d.payload

@@ -1,6 +1,5 @@
 -- Runs of bits and moments in parts. Knows nothing of what a bit does.
 --
---   Ended n w                  n bits of w, and the last one
 --   Parted ms before left      the moments ms, cut in two: the bits before, and left
 --   PartedAt ms before b left  the moments ms, cut at that of the bit b: the bits before come ahead of it, and left after it
 use Rattle.std.proofs.Common.{◌≡◌, ℕ, zero, suc, Bool, List, [], ◌∷◌, ◌++◌, length, take, refl, ap, ap₂, arith}
@@ -52,20 +51,6 @@ module _ {A : Type 0} (P : A → Type 0) where
   pub all_joined : (xs ys : List A) → AllByRecursion P xs → AllByRecursion P ys → AllByRecursion P (xs ++ ys)
   all_joined [] ys a b = b
   all_joined (x ∷ xs) ys a b = (a.0, all_joined xs ys a.1 b)
-
-pub record Ended (n : ℕ) (w : List Bool) : Type 0 where
-  pub front : List Bool
-  pub last : Bool
-  pub is : w ≡ front ++ last ∷ []
-  pub long : length front ≡ n
-
-pub ended : (n : ℕ) (w : List Bool) → length w ≡ suc n → Ended n w
-ended n [] h = absurd (omega arith)
-ended zero (b ∷ []) h = record { front = []; last = b; is = refl; long = refl }
-ended zero (b ∷ c ∷ w) h = absurd (omega arith)
-ended (suc n) (b ∷ w) h =
-    let c = ended n w (omega arith) in
-    record { front = b ∷ c.front; last = c.last; is = ap (λ l. b ∷ l) c.is; long = ap suc c.long }
 
 pub record Parted (ms : List Moment) (before left : List Bool) : Type 0 where
   pub past : List Moment

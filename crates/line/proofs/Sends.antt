@@ -99,7 +99,7 @@ module _ (laws : CodeLaws) {q : ℕ} {x : Send} (c : Carried q x) where
   word = ap value c.head
 
   pub header_long_lem : length (header_bits x) ≡ 40
-  header_long_lem = ap length c.head ∙ laws.header_long q x.cell.header
+  header_long_lem = ap length c.head ∙ head_long q x.cell.header
 
   pub payload_long_lem : length (payload_bits x) ≡ 384
   payload_long_lem = ap length c.body ∙ laws.payload_long q x.cell.payload c.payload
@@ -121,7 +121,7 @@ module _ (laws : CodeLaws) {q : ℕ} {x : Send} (c : Carried q x) where
 
 -- ---- user cells
 
-user_is : (k : Kind) (c d : Cell) → user_by k c ≡ Some d → (k ≡ User) × (c ≡ d)
+pub user_is : (k : Kind) (c d : Cell) → user_by k c ≡ Some d → (k ≡ User) × (c ≡ d)
 user_is Idle c d e = absurd (let z : ◌≡◌ {A = ℕ} 0 1 = cc in omega arith)
 user_is F3 c d e = absurd (let z : ◌≡◌ {A = ℕ} 0 1 = cc in omega arith)
 user_is User c d e = (refl, cc)

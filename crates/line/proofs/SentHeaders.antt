@@ -2,7 +2,7 @@
 --
 --   steady q u, verifying c q u, acquiring b c u  what is known in each state of the descrambler, where every header was right
 --   bound_at c                                    the boundary after c agreeing headers in a row
-use Rattle.std.proofs.Common.{◌≡◌, ℕ, suc, ◌+◌, ◌-◌, ◌*◌, ◌%◌, ◌^◌, ◌<◌, ◌≤◌, Bool, true, false, cond, eqb, ltb, List, Some, None, refl, ap, ◌∙◌, subst, true≢false, arith, le-ltb, lt-ltb, eq-eqb}
+use Rattle.std.proofs.Common.{◌≡◌, ℕ, suc, ◌+◌, ◌-◌, ◌*◌, ◌%◌, ◌^◌, ◌<◌, ◌≤◌, Bool, true, false, cond, eqb, ltb, List, Some, None, sym, refl, ap, ◌∙◌, subst, ap₂, true≢false, arith, le-ltb, lt-ltb, eq-eqb}
 use mathlib.Core.Bool.{false≢true}
 use native.Mathlib.Decide.{dec_lt}
 use Rattle.cell.specs.Verdict.{verdict_of}
@@ -32,7 +32,7 @@ use Rattle.line.proofs.Carried.{Carried, sent_user}
 use Rattle.line.proofs.CellOffers.{cell_from}
 use Rattle.line.proofs.Cells.{at, synced}
 use Rattle.line.proofs.CodeLaws.{CodeLaws, moved, trail}
-use Rattle.line.proofs.Sends.{header_clean, header_descrambled, payload_descrambled}
+use Rattle.line.proofs.Sends.{header_agrees, header_samples, header_clean, header_descrambled, payload_descrambled}
 
 abbrev pub steady : ℕ → ℕ → Lock
 steady q u = synced 0 24 q u
@@ -134,3 +134,24 @@ module _ (laws : CodeLaws) where
       (Payload 47 7 (Some (record { 0 = y.cell.header })) (steady (next_phase q) (sampled u (value (header_bits y)))))
   steady_sent q m u y g = steady_next q m u (value (header_bits y)) (record { 0 = y.cell.header }) laws.no_fault (header_clean laws g)
       (header_descrambled laws g)
+
+  -- the header of y is that of the cell i + 1, where the first that agreed was the cell 0; the sixteenth gives the phase
+  pub acquired_sent : (m : Mode) (i q : ℕ) (y : Send) → i < 14 → Carried (moved (suc i) q) y
+      → headed m (acquiring (bound_at (i + 1)) (i + 1) (trail i q)) (value (header_bits y)) ≡ at m (Payload 47 7 None (acquiring (bound_at (suc i + 1)) (suc i + 1) (trail (suc i) q)))
+  acquired_sent m i q y n f =
+      let w : ℕ = value (header_bits y) in
+      let t : ltb (i + 1 + 1) 16 ≡ true = lt-ltb (i + 1 + 1) 16 (omega arith) in
+      let l : i + 1 ≡ suc i = omega arith in
+      acquire_next (bound_at (i + 1)) (bound_at (i + 1 + 1)) m (i + 1) (trail i q) w (bound_next (i + 1) (omega arith)) (header_agrees laws f)
+      ∙ ap (λ z. at m (Payload 47 7 None (record { delineation = bound_at (i + 1 + 1); descrambler = cond z (Acquisition (i + 1 + 1)) (found_phase (found (sampled (trail i q) w % 2 ^ 31))); samples = sampled (trail i q) w }))) t
+      ∙ ap₂ (λ (j u : ℕ). at m (Payload 47 7 None (acquiring (bound_at (j + 1)) (j + 1) u))) l (sampled_trail i q w (header_samples laws f))
+
+  pub found_sent : (m : Mode) (i q : ℕ) (y : Send) → i ≡ 14 → q < 2 ^ 31 → Carried (moved (suc i) q) y
+      → headed m (acquiring (bound_at (i + 1)) (i + 1) (trail i q)) (value (header_bits y)) ≡ at m (Payload 47 7 None (verifying 16 (moved (suc i) q) (trail (suc i) q)))
+  found_sent m i q y l h f =
+      let w : ℕ = value (header_bits y) in
+      subst (λ (z : ℕ). samples_in w ≡ predicted (moved (suc z) q) → headed m (acquiring (bound_at (z + 1)) (z + 1) (trail z q)) w ≡ at m (Payload 47 7 None (verifying 16 (moved (suc z) q) (trail (suc z) q)))) (sym l)
+      (λ e. acquire_next (bound_at 15) (bound_at 16) m 15 (trail 14 q) w (bound_next 15 (omega arith)) (header_agrees laws f)
+      ∙ ap (λ z. at m (Payload 47 7 None (record { delineation = bound_at 16; descrambler = found_phase (found (z % 2 ^ 31)); samples = z }))) (sampled_trail 14 q w e)
+      ∙ ap (λ z. at m (Payload 47 7 None (record { delineation = bound_at 16; descrambler = found_phase z; samples = trail 15 q }))) (laws.finds q h))
+      (header_samples laws f)

@@ -21,10 +21,11 @@ use Rattle.line.specs.Sending as sending
 use Rattle.line.specs.Sending.{History, sent}
 use Rattle.line.proofs.Bits.{length-bits_of}
 use Rattle.line.proofs.Carried.{CarriedOn}
+use Rattle.line.proofs.Cells.{Ended, ended}
 use Rattle.line.proofs.CodeFacts.{code_laws}
 use Rattle.line.proofs.FedStream.{fed_ends, fed_laws, sent_stream, FedInStep, fed_in_step}
 use Rattle.line.proofs.Roomy.{RoomyAt, roomy_ready}
-use Rattle.line.proofs.Runs.{length-bits, all_rest, Ended, ended, parted_at}
+use Rattle.line.proofs.Runs.{length-bits, all_rest, parted_at}
 use Rattle.line.proofs.SampleSends.{sample_connection, send_on, sends_on, sent_on, fresh-octets, Grown, grown}
 use Rattle.line.proofs.Sends.{stream_carried, payload_long_lem}
 

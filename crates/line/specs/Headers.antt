@@ -7,8 +7,9 @@
 --   phase_on p hs      the phase p of the cell before the headers hs, moved on by a cell for each of them
 --   as_predicted p hs  how many of the headers hs agree and have the samples U(t - 211) and U(t + 1), where p is the phase before them
 --   samples_from hs    the samples of the headers hs as one number, two bits for each, the oldest on top
---   Preceded hs        among the headers hs stand sixteen in a row that agree; the last 31 of their samples are those of one phase
---                      and no other; and of the headers after them at least eight agree and have the samples of that phase, moved on.
+--   Sixteen hs         among the headers hs stand sixteen in a row that agree, and the last 31 of their samples are those of one phase
+--                      and no other
+--   Preceded hs        so they do, and of the headers after them at least eight agree and have the samples of that phase, moved on.
 --                      Other headers may lie among the eight
 use Rattle.std.specs.Prelude.{◌≡◌, ℕ, ◌+◌, ◌*◌, ◌%◌, ◌^◌, ◌≤◌, Bool, true, false, cond, List, [], ◌∷◌, ◌++◌, length, ◌==◌}
 use Rattle.std.specs.List.{AllByRecursion}
@@ -53,13 +54,16 @@ abbrev pub samples_from : List ℕ → ℕ
 samples_from [] = 0
 samples_from (h ∷ hs) = samples_from hs * 2 ^ 2 + samples_in h
 
-pub record Preceded (hs : List ℕ) : Type 0 where
+pub record Sixteen (hs : List ℕ) : Type 0 where
   pub later : List ℕ
-  pub sixteen : List ℕ
+  pub row : List ℕ
   pub earlier : List ℕ
-  pub split : hs ≡ later ++ (sixteen ++ earlier)
-  pub count : length sixteen ≡ 16
-  pub agree : AllByRecursion (λ h. agrees h ≡ true) sixteen
+  pub split : hs ≡ later ++ (row ++ earlier)
+  pub count : length row ≡ 16
+  pub agree : AllByRecursion (λ h. agrees h ≡ true) row
   pub phase : ℕ
-  pub gave : OnePhase (samples_from sixteen % 2 ^ 31) phase
-  pub eight : 8 ≤ as_predicted phase later
+  pub gave : OnePhase (samples_from row % 2 ^ 31) phase
+
+pub record Preceded (hs : List ℕ) : Type 0 where
+  pub sixteen : Sixteen hs
+  pub eight : 8 ≤ as_predicted sixteen.phase sixteen.later

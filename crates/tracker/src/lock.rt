@@ -64,11 +64,11 @@ impl Lock {
         match (lock.delineation, lock.descrambler, verdict) {
             // a wrong header loses PRESYNC, and the seventh in a row SYNC
             (Delineation::Presync(_), _, Verdict::OneWrongBit(_) | Verdict::PastMending) => {
-                lock.hunt(BoundaryCause::LostFromPresync, mode, verdict)
+                lock.lose_boundary(BoundaryCause::LostFromPresync, mode, verdict)
             }
             (Delineation::Sync(n), _, Verdict::OneWrongBit(_) | Verdict::PastMending)
                 if n >= WRONG_HEADERS_TO_HUNT - 1 => {
-                lock.hunt(BoundaryCause::LostFromSync, mode, verdict)
+                lock.lose_boundary(BoundaryCause::LostFromSync, mode, verdict)
             }
             // those before the seventh are counted
             (
@@ -107,9 +107,9 @@ impl Lock {
                 lock.enter(boundary.confirm(), next, (mode, None), None)
             }
             (boundary, Descrambler::Verification(confidence, phase), Verdict::Clean) => {
-                let next = verify(window.is_as_predicted(phase), confidence, phase);
-                let mode = mode_begun(next.0, mode);
-                lock.enter(boundary.confirm(), next, (mode, None), None)
+                let (descrambler, told) = verify(window.is_as_predicted(phase), confidence, phase);
+                let mode = mode_begun(descrambler, mode);
+                lock.enter(boundary.confirm(), (descrambler, told), (mode, None), None)
             }
             (boundary, Descrambler::Steady(confidence, phase), Verdict::Clean) => {
                 let next = hold(window.freed(phase), confidence, phase);
@@ -120,7 +120,7 @@ impl Lock {
     }
 
     // HUNT, after a wrong header that loses the boundary. The phase is lost with it.
-    fn hunt(self, cause: BoundaryCause, mode: Mode, verdict: Verdict) -> Headed
+    fn lose_boundary(self, cause: BoundaryCause, mode: Mode, verdict: Verdict) -> Headed
         ensures { result ≡ hunt_from self.descrambler cause mode verdict }
     {
         let ((mode, header), descrambler) = match self.descrambler {
@@ -156,20 +156,23 @@ impl Lock {
         ensures control { result.control ≡ entered self taken descrambler.0 self.samples header.0 (Some boundary.0) }
         ensures events { result.events ≡ record { header = header.1; boundary = boundary.1; descrambler = descrambler.1 } }
     {
+        let (delineation, boundary) = boundary;
+        let (descrambler, cause) = descrambler;
+        let (mode, header) = header;
         let next = Lock {
-            delineation: boundary.0,
-            descrambler: descrambler.0,
+            delineation,
+            descrambler,
             samples: self.samples,
         };
         Headed {
             control: Control {
-                mode: header.0,
+                mode,
                 place: self.payload_to(next, taken),
             },
             events: HeaderEvents {
-                header: header.1,
-                boundary: boundary.1,
-                descrambler: descrambler.1,
+                header,
+                boundary,
+                descrambler: cause,
             },
         }
     }

@@ -78,7 +78,7 @@ impl Tracker {
         self.window.push(bit);
         // most bits only count down, which needs no copy of the place
         match &mut self.control.place {
-            Place::Hunt => self.hunt(),
+            Place::Hunt => self.try_header(),
             Place::Payload { bits, .. } if *bits > 0 => {
                 *bits -= 1;
                 None
@@ -98,7 +98,7 @@ impl Tracker {
     }
 
     // Tries the last 40 bits as a header; one that agrees ends the hunt.
-    fn hunt(&mut self) -> Option<Moment>
+    fn try_header(&mut self) -> Option<Moment>
         requires { self.old.control.place ≡ Place.Hunt }
         ensures next { self.new ≡ moved Place.Hunt self.old }
         ensures brings { result ≡ brings_at Place.Hunt self.old }

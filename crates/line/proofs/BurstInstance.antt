@@ -15,8 +15,9 @@ use Rattle.line.specs.Sending.{History, sent}
 use Rattle.line.proofs.Bits.{length-bits_of}
 use Rattle.line.proofs.Carried.{CarriedOn}
 use Rattle.line.proofs.CodeFacts.{code_laws}
-use Rattle.line.proofs.Damage.{Octets53, lines_of, bits-joined, length-join, bits_whole, stream_octets, damaged, damaged_lines, burst, length_burst, outside_six, inside_six}
+use Rattle.line.proofs.Damage.{Octets53, lines_of, bits-joined, bits_whole, stream_octets, damaged, damaged_lines, burst, length_burst, outside_six, inside_six}
 use Rattle.line.proofs.FedStream.{fed_ends, fed_laws, sent_stream, FedInStep, fed_in_step}
+use Rattle.line.proofs.LawC.{length-join}
 use Rattle.line.proofs.Roomy.{roomy_ready}
 use Rattle.line.proofs.Runs.{length-bits, all_front, all_rest, all_joined}
 use Rattle.line.proofs.SampleSends.{sample_connection, send_on, sends_on, sent_on, fresh-octets, grown}
@@ -56,7 +57,8 @@ burst_comes g x₀ ys x six y zs k sends many count few user own =
     let line-octets : Octets53 lines =
     all_joined (Octets 53) (map (λ (z : Send). damaged z.line) six) (lines_of later) (damaged_lines six six-octets) (all_rest (Octets 53) (lines_of six) (lines_of later) back-octets) in
     let n₁ : length lines ≡ 6 + suc (length zs) = length_burst six later ∙ length-append six later ∙ ap (λ (n : ℕ). n + suc (length zs)) count in
-    let n₂ : length (join lines) ≡ 53 * length lines = length-join lines line-octets in
+    let n₂ : length (join lines) ≡ 53 * length lines =
+    (let a = length-bits_of (join lines) in let b = ap length (bits-joined lines) in let c = length-join (map bits_of lines) (bits_whole lines line-octets) in let e = length-map lines bits_of in omega arith) in
     let v : FedInStep p (x₀ ∷ ys) x back (join lines) = fed_in_step p x₀ ys x back (join lines) stream many (omega arith) in
     let got : List (List Bool) = map bits_of (x.line ∷ lines) in
     let f = follows_by v.past v.rest p (x₀ ∷ ys) x back lines v.right v.sure (header_long_lem code_laws carried.0) (length_burst six later) (octets.0, line-octets) v.others in

@@ -8,9 +8,10 @@
 --   on bs j         j, and one more for each of the bits bs
 --   Cut n w         n bits of w, one more, and the rest
 --   Ended n w       n bits of w, and one more, the last
-use Rattle.std.proofs.Common.{◌≡◌, ℕ, zero, suc, ◌+◌, ◌-◌, ◌*◌, ◌/◌, ◌%◌, ◌^◌, ◌<◌, ◌≤◌, Bool, true, false, cond, ltb, List, [], ◌∷◌, ◌++◌, length, take, drop, set, Some, None, Option, sym, refl, ap, ◌∙◌, subst, ap₂, append_assoc, arith, length-set, le-ltb, lt-ltb}
+use Rattle.std.proofs.Common.{◌≡◌, ℕ, zero, suc, ◌+◌, ◌-◌, ◌*◌, ◌/◌, ◌%◌, ◌^◌, ◌<◌, ◌≤◌, Bool, true, false, cond, ltb, List, [], ◌∷◌, ◌++◌, length, take, set, Some, None, Option, sym, refl, ap, ◌∙◌, subst, ap₂, append_assoc, arith, length-set, le-ltb, lt-ltb}
+use Rattle.std.proofs.lemmas.List.{drop_all}
 use native.Mathlib.Decide.{dec_lt}
-use lib.Seq.{set_split}
+use lib.Seq.{set_split, take-suc-set}
 use Rattle.cell.specs.declared.header.Header as headers
 use Rattle.scrambler.proofs.Payloads.{length-masked}
 use Rattle.tracker.specs.declared.state.Mode.{Mode}
@@ -169,17 +170,6 @@ eight [] n = absurd (omega arith)
 abbrev line_at : ℕ → ℕ → Control → List ℕ → Tracker
 line_at x n c xs = record { window = record { bits = x; come = n }; control = c; payload = xs }
 
-take-set : (i : ℕ) (xs : List ℕ) (v : ℕ) → i < length xs → take (suc i) (set xs i v) ≡ take i xs ++ v ∷ []
-take-set i [] v h = absurd (omega arith)
-take-set zero (x ∷ xs) v h = refl
-take-set (suc i) (x ∷ xs) v h = ap (λ (l : List ℕ). x ∷ l) (take-set i xs v (omega arith))
-
-drop-none : (xs : List ℕ) (i : ℕ) → length xs ≤ i → drop i xs ≡ []
-drop-none [] zero h = refl
-drop-none [] (suc i) h = refl
-drop-none (x ∷ xs) zero h = absurd (omega arith)
-drop-none (x ∷ xs) (suc i) h = drop-none xs i (omega arith)
-
 pub nil_of : (w : List Bool) → length w ≡ 0 → w ≡ []
 nil_of [] e = refl
 nil_of (b ∷ w) e = absurd (omega arith)
@@ -201,7 +191,7 @@ last_octet x n m k l xs w ho hx hw = go (eight w (omega arith))
         subst (λ v. (after (line_at x n (at m (Payload 0 7 k l)) xs) v).payload ≡ descrambled k l (take 47 xs ++ octets_of v)) (sym q)
         (ap (descrambled k l) (set_split xs 47 _ (omega arith)
         ∙ ap₂ (λ (v : ℕ) (r : List ℕ). take 47 xs ++ v ∷ r) (window_octet y.a y.b y.c y.d y.e y.f y.g y.h x)
-        (drop-none xs 48 (omega arith))))
+        (drop_all 48 xs (omega arith))))
 
 more_octets : (o : ℕ) → OctetRun o → OctetRun (suc o)
 unfolding step
@@ -226,7 +216,7 @@ more_octets o ih x n m k l xs w ho hx hw = go (eight w (omega arith))
         ∙ ap₂ (λ (i z : ℕ). (after (line_at x' n' (at m (Payload i 7 k l)) (set xs (47 - suc o) z)) y.rest).payload) u wo
         ∙ r ∙ ap (descrambled k l)
         (ap (λ (i : ℕ). take i (set xs (47 - suc o) v) ++ octets_of y.rest) j
-        ∙ ap (λ (z : List ℕ). z ++ octets_of y.rest) (take-set (47 - suc o) xs v (omega arith))
+        ∙ ap (λ (z : List ℕ). z ++ octets_of y.rest) (take-suc-set xs (47 - suc o) v (omega arith))
         ∙ append_assoc (take (47 - suc o) xs) (v ∷ []) (octets_of y.rest)))
 
 octet_run : (o : ℕ) → OctetRun o

@@ -4,7 +4,7 @@
 --   lines_of xs      the lines of sends
 --   damaged os       the octets os, each of them changed
 --   burst six later  the lines as they come in: those of the sends six damaged, those of later as sent
-use Rattle.std.proofs.Common.{◌≡◌, ℕ, zero, suc, ◌+◌, ◌*◌, ◌%◌, ◌^◌, ◌<◌, ◌≤◌, ◌⊎◌, List, [], ◌∷◌, ◌++◌, map, length, get_or, sym, refl, ap, ◌∙◌, inl, inr, append_assoc, mod-lt, arith, lit<, length-append}
+use Rattle.std.proofs.Common.{◌≡◌, ℕ, zero, suc, ◌+◌, ◌*◌, ◌%◌, ◌^◌, ◌<◌, ◌≤◌, ◌⊎◌, List, [], ◌∷◌, ◌++◌, map, length, get_or, sym, refl, ap, ◌∙◌, inl, inr, append_assoc, mod-lt, arith, lit<}
 use Rattle.std.proofs.lemmas.List.{length-map}
 use Rattle.std.specs.List.{AllByRecursion}
 use Rattle.sender.specs.Sender.{Octets}
@@ -27,10 +27,6 @@ lines_of xs = map (λ x. x.line) xs
 pub bits-joined : (ls : List (List ℕ)) → join (map bits_of ls) ≡ bits_of (join ls)
 bits-joined [] = refl
 bits-joined (l ∷ ls) = ap (λ w. bits_of l ++ w) (bits-joined ls) ∙ sym (bits_of-append l (join ls))
-
-pub length-join : (ls : List (List ℕ)) → Octets53 ls → length (join ls) ≡ 53 * length ls
-length-join [] h = refl
-length-join (l ∷ ls) h = length-append l (join ls) ∙ (let a = h.0.0 in let b = length-join ls h.1 in omega arith)
 
 pub bits_whole : (ls : List (List ℕ)) → Octets53 ls → AllByRecursion (λ w. length w ≡ 424) (map bits_of ls)
 bits_whole [] h = tt

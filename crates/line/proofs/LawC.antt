@@ -1,6 +1,6 @@
 -- In step at confidence 24, bits that change in at most six cells in a row leave every later undamaged cell as sent.
 -- Knows the code by the record CodeLaws only, and of sinks nothing but what a row of offers adds.
-use Rattle.std.proofs.Common.{◌≡◌, ℕ, zero, suc, ◌+◌, ◌*◌, ◌<◌, ◌≤◌, Bool, ◌⊎◌, List, [], ◌∷◌, ◌++◌, map, length, get_or, take, drop, None, sym, refl, ap, ◌∙◌, subst, inl, inr, ⊎_elim, append_assoc, arith, length-append, length-drop, take-append-drop, length-take}
+use Rattle.std.proofs.Common.{◌≡◌, ℕ, suc, ◌+◌, ◌*◌, ◌<◌, ◌≤◌, Bool, ◌⊎◌, List, [], ◌∷◌, ◌++◌, map, length, get_or, take, drop, None, sym, refl, ap, ◌∙◌, subst, append_assoc, arith, length-append, length-drop, take-append-drop, length-take}
 use lib.Seq.{drop-append-le}
 use Rattle.std.specs.List.{AllByRecursion}
 use Rattle.cell.specs.declared.header.Kind.TheVariants.{User}
@@ -26,7 +26,7 @@ use Rattle.line.proofs.Reached.{fine_run}
 use Rattle.line.proofs.RightHeader.{Cleared, right_clears}
 use Rattle.line.proofs.Runs.{bits-take, length-bits, heard-rest}
 use Rattle.line.proofs.Sends.{stream_carried, carried_at, header_long_lem, header_agrees, header_clean, sent_user_is}
-use Rattle.line.proofs.Survives.{frames_of, lines_of, Survives, Same, survives}
+use Rattle.line.proofs.Survives.{frames_of, lines_of, Survives, Same, whole, damaged, next, survives}
 use Rattle.line.proofs.Puts.{gained}
 
 -- ---- cells as they come in
@@ -36,36 +36,13 @@ flat_join [] = refl
 flat_join (g ∷ gs) = ap (λ z. take 40 g ++ (drop 40 g ++ z)) (flat_join gs) ∙ sym (append_assoc (take 40 g) (drop 40 g) (join gs))
     ∙ ap (λ z. z ++ join gs) (take-append-drop 40 g)
 
-length-join : (gs : List (List Bool)) → AllByRecursion (λ g. length g ≡ 424) gs → length (join gs) ≡ 424 * length gs
+pub length-join : (gs : List (List Bool)) → AllByRecursion (λ g. length g ≡ 424) gs → length (join gs) ≡ 424 * length gs
 length-join [] e = refl
 length-join (g ∷ gs) e = length-append g (join gs) ∙ (let h = e.0 in let z = length-join gs e.1 in omega arith)
 
 sized_got : (gs : List (List Bool)) → AllByRecursion (λ g. length g ≡ 424) gs → Sized (frames_of gs)
 sized_got [] e = tt
 sized_got (g ∷ gs) e = (length-take 40 g ∙ (let h = e.0 in omega arith), length-drop 40 g ∙ (let h = e.0 in omega arith), sized_got gs e.1)
-
--- the damage seen from the next cell on
-record Later (gs ts : List (List Bool)) : Type 0 where
-  d : ℕ
-  r : ℕ
-  few : r ≤ 6
-  same : Same gs ts d r
-
-later_damage : (g t : List Bool) (gs ts : List (List Bool)) (d : ℕ) → Same (g ∷ gs) (t ∷ ts) d 6 → Later gs ts
-later_damage g t gs ts zero u = record {
-  d = 0;
-  r = 5;
-  few = omega arith;
-  same = λ i o. u (suc i)
-      (⊎_elim (λ a. inr (absurd (omega arith))) (λ a. inr (omega arith)) o);
-}
-later_damage g t gs ts (suc d) u = record {
-  d = d;
-  r = 6;
-  few = omega arith;
-  same = λ i o. u (suc i)
-      (⊎_elim (λ a. inl (omega arith)) (λ a. inr (omega arith)) o);
-}
 
 user_at : (before later : List Send) (y : Send) → get_or (map sent_user (before ++ y ∷ later)) (length before) None ≡ sent_user y
 user_at [] later y = refl
@@ -104,14 +81,14 @@ module _ (laws : CodeLaws) where
     long : length (drop 40 g) ≡ 384
     long = length-drop 40 g ∙ (let h = F.whole.0 in omega arith)
 
-    damage : Later gs (lines_of back)
-    damage = later_damage g (bits_of x.line) gs (lines_of back) d U
+    damage : (d' : ℕ) × (r : ℕ) × (r ≤ 6) × Same gs (lines_of back) d' r
+    damage = elim (next g (bits_of x.line) gs (lines_of back) d 6 U) [ whole e d' s ↦ (d', 6, omega arith, s) | damaged r e s ↦ (0, r, omega arith, s) ]
 
     row : Survives st.mode st.kept lock x.phase (drop 40 g) gs back
-    row = survives laws gs back damage.d damage.r st.kept st.wrong st.confidence x.phase st.mode st.samples (drop 40 g)
-        (let z = (right_cleared past p front x back F.right carried.0).none in let y = damage.few in omega arith)
-        (let z = full in let y = damage.few in omega arith) (let z = full in omega arith) carried.1 F.whole.1
-        (let z = F.as_many in omega arith) damage.same
+    row = survives laws gs back damage.0 damage.1 st.kept st.wrong st.confidence x.phase st.mode st.samples (drop 40 g)
+        (let z = (right_cleared past p front x back F.right carried.0).none in let y = damage.2 in omega arith)
+        (let z = full in let y = damage.2 in omega arith) (let z = full in omega arith) carried.1 F.whole.1
+        (let z = F.as_many in omega arith) damage.3
 
     begins : Begins (bits rest) (drop 40 g ++ flat (frames_of gs))
     begins = (

@@ -112,6 +112,16 @@ pub record Survives (d : Mode) (kept : Option headers.Header) (l : Lock) (q : �
 abbrev pub Same : List (List Bool) → List (List Bool) → ℕ → ℕ → Type 0
 Same gs ts d r = (i : ℕ) → (i < d) ⊎ (d + r ≤ i) → get_or gs i [] ≡ get_or ts i []
 
+-- the first cell, and the damage seen from the next on
+pub data Next (g t : List Bool) (gs ts : List (List Bool)) (r : ℕ) : Type 0 where
+  whole : g ≡ t → (d : ℕ) → Same gs ts d r → Next g t gs ts r
+  damaged : (r' : ℕ) → r ≡ suc r' → Same gs ts 0 r' → Next g t gs ts r
+
+pub next : (g t : List Bool) (gs ts : List (List Bool)) (d r : ℕ) → Same (g ∷ gs) (t ∷ ts) d r → Next g t gs ts r
+next g t gs ts (suc d) r s = whole (s 0 (inl (omega arith))) d (λ i o. s (suc i) (⊎_elim (λ a. inl (omega arith)) (λ a. inr (omega arith)) o))
+next g t gs ts zero (suc r) s = damaged r refl (λ i o. s (suc i) (⊎_elim (λ a. absurd (omega arith)) (λ a. inr (omega arith)) o))
+next g t gs ts zero zero s = whole (s 0 (inr (omega arith))) 0 (λ i o. s (suc i) (inr (omega arith)))
+
 in_step_now : (kept : Option headers.Header) (n c q : ℕ) (m : Mode) (u : ℕ) (s : Tracker) → At s m (Payload 47 7 kept (synced n c q u)) → InStep s q
 in_step_now kept n c q m u s e = record { confidence = c; kept = kept; wrong = n; mode = m; samples = u; is = e.control }
 
@@ -196,23 +206,17 @@ module _ (laws : CodeLaws) where
       only s bs p lw b (suc i) lt =
           absurd (let z = ap length b.1 in let y = length-append bs b.0 in let e = length-append w [] in omega arith)
   survives (g ∷ gs) [] d r kept n c q m u w hx hc hm f l many s = absurd (omega arith)
-  survives (g ∷ gs) (x ∷ ls) (suc d) r kept n c q m u w hx hc hm f l many s =
-      let e : g ≡ bits_of x.line = s 0 (inl (omega arith)) in
-      let ra = raised_is c hm in let r₀ = ra.0 in let r₁ = ra.1 in
-      longer kept n c q m u w g gs x ls 0 (raised c) Correction f.0 l.0
-      (right_header n c q m u (value (take 40 g)) (clean_head g (next_phase q) x f.0 e) (clean_verdict g (next_phase q) x f.0 e))
-      (survives gs ls d r _ 0 (raised c) (next_phase q) Correction _ (drop 40 g) (omega arith) (omega arith) r₁ f.1 l.1 (omega arith)
-      (λ i o. s (suc i) (⊎_elim (λ a. inl (omega arith)) (λ a. inr (omega arith)) o)))
-  survives (g ∷ gs) (x ∷ ls) zero (suc r) kept n c q m u w hx hc hm f l many s =
-      let o = any_header n c q m u (value (take 40 g)) (omega arith) (omega arith) hm in
-      longer kept n c q m u w g gs x ls o.wrong o.conf o.mode f.0 l.0 o.is
-      (survives gs ls zero r _ o.wrong o.conf (next_phase q) o.mode _ (drop 40 g) (let z = o.worse in omega arith)
-      (let z = o.lower in omega arith) o.most f.1 l.1 (omega arith)
-      (λ i a. s (suc i) (⊎_elim (λ b. inr (absurd (omega arith))) (λ b. inr (omega arith)) a)))
-  survives (g ∷ gs) (x ∷ ls) zero zero kept n c q m u w hx hc hm f l many s =
-      let e : g ≡ bits_of x.line = s 0 (inr (omega arith)) in
-      let ra = raised_is c hm in let r₀ = ra.0 in let r₁ = ra.1 in
-      longer kept n c q m u w g gs x ls 0 (raised c) Correction f.0 l.0
-      (right_header n c q m u (value (take 40 g)) (clean_head g (next_phase q) x f.0 e) (clean_verdict g (next_phase q) x f.0 e))
-      (survives gs ls zero zero _ 0 (raised c) (next_phase q) Correction _ (drop 40 g) (omega arith) (omega arith) r₁ f.1 l.1 (omega arith)
-      (λ i o. s (suc i) (inr (omega arith))))
+  survives (g ∷ gs) (x ∷ ls) d r kept n c q m u w hx hc hm f l many s =
+      elim (next g (bits_of x.line) gs (lines_of ls) d r s) [
+        | whole e d' s' ↦
+            let ra = raised_is c hm in
+            let r₀ = ra.0 in
+            longer kept n c q m u w g gs x ls 0 (raised c) Correction f.0 l.0
+            (right_header n c q m u (value (take 40 g)) (clean_head g (next_phase q) x f.0 e) (clean_verdict g (next_phase q) x f.0 e))
+            (survives gs ls d' r _ 0 (raised c) (next_phase q) Correction _ (drop 40 g) (omega arith) (omega arith) ra.1 f.1 l.1 (omega arith) s')
+        | damaged r' e s' ↦
+            let o = any_header n c q m u (value (take 40 g)) (omega arith) (omega arith) hm in
+            longer kept n c q m u w g gs x ls o.wrong o.conf o.mode f.0 l.0 o.is
+            (survives gs ls zero r' _ o.wrong o.conf (next_phase q) o.mode _ (drop 40 g) (let z = o.worse in omega arith)
+            (let z = o.lower in omega arith) o.most f.1 l.1 (omega arith) s')
+      ]

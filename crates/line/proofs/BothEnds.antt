@@ -73,6 +73,8 @@ module _ (laws : (all : List Moment) → Heard start all → LawsThroughout all)
         send = λ x s' us y. sending.called h (us, y);
         send_next = λ waiting waiting' kind line s' us y. sending.called h (us, (refl, y));
         set_f3 = λ f answer s' x. sending.called h x;
+        phase = sending.called h (refl, refl);
+        number = sending.called h (refl, refl);
       }
 
   pub line_theorem : LineTheorem

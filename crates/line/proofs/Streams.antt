@@ -1,5 +1,5 @@
 -- Histories of calls on a sender: every stream that is read off one is a sent stream. Knows nothing of coding.
-use Rattle.std.proofs.Common.{ℕ, List, [], ◌++◌, Ok, Err, Result, sym, subst, append-nil}
+use Rattle.std.proofs.Common.{◌≡◌, ℕ, List, [], ◌++◌, Ok, Err, Result, sym, subst, append-nil}
 use Rattle.std.specs.List.{AllByRecursion}
 use Rattle.cell.specs.declared.header.Kind.{Kind}
 use Rattle.cell.specs.declared.refusal.Refusal.{Refusal}
@@ -31,11 +31,14 @@ is_sent x s h = record { first = h.first; last = s; begins = h.begins; run = h.r
 goes_on : (x : Stream) (s s' : SenderState) (xs : List Send) → Leads x s → Run s xs s' → Leads (record { begins = x.begins; sends = x.sends ++ xs }) s'
 goes_on x s s' xs h r = record { first = h.first; begins = h.begins; run = stream_laws.joined h.first s s' x.sends xs h.run r }
 
+same_stands : (s s' : SenderState) (t : Streams) → s' ≡ s → Stands s t → Stands s' t
+same_stands s s' t e st = subst (λ (z : SenderState). Stands z t) (sym e) st
+
 start-stands : (s s' : SenderState) (p : ℕ) (answer : Result (Unit {0}) Refusal) (t : Streams) → StartAnswer s p answer s' → Stands s t → Stands s' (started_with p answer t)
 start-stands s s' p (Ok u) t h st =
     subst (λ (z : SenderState). Stands z (started_with p (Ok u) t)) (sym h.1)
     (record { newest = record { first = started s p; begins = stream.start s p h.0; run = none }; earlier = (is_sent t.newest s st.newest, st.earlier) })
-start-stands s s' p (Err e) t h st = subst (λ (z : SenderState). Stands z t) (sym h.1) st
+start-stands s s' p (Err e) t h st = same_stands s s' t h.1 st
 
 send_runs : (s s' : SenderState) (x : Sending) (answer : Result Kind Refusal) → AllByRecursion User x.waiting → SendAnswer s x.waiting x.place answer s' x.waiting' x.place' → Run s (sent_by s x answer) s'
 send_runs s s' x (Ok kind) us h = more (stream_laws.accepted s s' x.waiting x.waiting' kind x.place' us h.1) none
@@ -53,6 +56,8 @@ call_stands s (call.set_f3 f answer) s' t h st =
       newest = subst (λ (xs : List Send). Leads (record { begins = t.newest.begins; sends = xs }) s') (append-nil t.newest.sends) (goes_on t.newest s s' [] st.newest (f3_runs s s' f answer h));
       earlier = st.earlier;
     }
+call_stands s (call.phase p) s' t h st = same_stands s s' t h.1 st
+call_stands s (call.number n) s' t h st = same_stands s s' t h.1 st
 
 history_stands : {cs : List Call} {s : SenderState} (h : History cs s) → Stands s (sent h)
 history_stands made = record { newest = record { first = fresh; begins = stream.made; run = none }; earlier = tt }

@@ -20,7 +20,8 @@
 --   mended_only                    the events of a header that is mended: one in layer 1, none in layers 2 and 3
 --   Restored s b y                 the header of y ends with the bit b: it is mended, the end stays in step, and the cell is kept by the header
 --                                  that was sent
---   GoesUp                         the cell of y goes up as sent at its last bit, that of n, and where the sink is ready its connection gains it
+--   GoesUp                         with the bit of n, the last of its payload, the cell of y is offered as sent; and where the sink is then ready,
+--                                  its connection gains that cell over the payload, and nothing else is gained
 --
 -- The laws, in words:
 --

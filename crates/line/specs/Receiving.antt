@@ -4,11 +4,14 @@
 --                 events of the ring lent, before and after it; the answer. Another sink and another ring may be lent to each feed, and a
 --                 sink or a ring may change between two feeds
 --   Call          one call: a feed, a reset, or a reading with what it answered (the state, the counters, the bit count, the F3 payload)
+--   Feeding       the call of feed f on the receiving end r leaves it as r', where it answers so
 --   Calls r c r'  the call c on the receiving end r leaves it as r': what the contract of each call says. A refused feed is a call too
 --   History cs r  the calls cs, the newest in front, each taking over the result of those before, lead from a receiving end as it is
 --                 made to r
 --   Stretches     what a receiving end has heard: since its making or its last reset (newest), and in the stretches before that reset,
 --                 from one reset to the next (earlier, the newest in front)
+--   moments_of    the moments of a feed, where it answers so; a refused one has none
+--   heard_with    what it has heard, after one call more
 --   heard h       what it has heard by the history h: the moments of the accepted feeds, in order
 --   stretches h   all of that, stretch by stretch, the newest in front
 use Rattle.std.specs.Prelude.{◌≡◌, ℕ, List, [], ◌∷◌, ◌++◌, Ok, Err, Result}
@@ -59,13 +62,12 @@ pub record Stretches : Type 0 where
   pub newest : List Moment
   pub earlier : List (List Moment)
 
--- the moments of a feed; a refused one has none
 abbrev pub moments_of : (r : Receiver) (f : Feed) (r' : Receiver) (answer : Result ℕ Refusal) → Feeding r f answer r' → List Moment
 moments_of r f r' (Ok n) h = h.works.moments
 moments_of r f r' (Err e) h = []
 
 abbrev pub heard_with : (r : Receiver) (c : Call) (r' : Receiver) → Calls r c r' → Stretches → Stretches
-heard_with r (feed f) r' h s = record { newest = s.newest ++ moments_of r f r' f.answer h; earlier = s.earlier }
+heard_with r (feed f) r' h s = record s { newest = s.newest ++ moments_of r f r' f.answer h }
 heard_with r reset r' h s = record { newest = []; earlier = s.newest ∷ s.earlier }
 heard_with r (state x) r' h s = s
 heard_with r (counters x) r' h s = s

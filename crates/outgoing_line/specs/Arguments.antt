@@ -17,8 +17,7 @@
 --                         of the word that names it, and why
 --   parsed words          what the words ask for
 --   why_text why          what is printed of a refusal, as octets of text
-use Rattle.std.specs.Prelude.{ℕ, ◌+◌, ◌-◌, ◌*◌, ◌^◌, cond, List, [], ◌∷◌, codes, Some, None, Ok, Err, Option, Result, nat_lt}
-use Rattle.std.specs.Option.{ok_or}
+use Rattle.std.specs.Prelude.{ℕ, ◌+◌, ◌-◌, ◌*◌, ◌^◌, cond, List, [], ◌∷◌, codes, Some, None, Ok, Err, Option, Result, nat_lt, unwrap_or, ok_or}
 use Rattle.cell.specs.Header.{reserved}
 use Rattle.command_line.specs.declared.fault.Fault.{Fault}
 use Rattle.outgoing_line.specs.Name.{named}
@@ -59,22 +58,22 @@ then (Ok x) next = next x
 then (Err why) next = Err why
 
 abbrev with_phase : Given → Option ℕ → Result Given Why
-with_phase g x = Ok (record { phase = x; lead = g.lead; vpi = g.vpi; vci = g.vci; header = g.header; f3 = g.f3 })
+with_phase g x = Ok (record g { phase = x })
 
 abbrev with_lead : Given → Option ℕ → Result Given Why
-with_lead g x = Ok (record { phase = g.phase; lead = x; vpi = g.vpi; vci = g.vci; header = g.header; f3 = g.f3 })
+with_lead g x = Ok (record g { lead = x })
 
 abbrev with_vpi : Given → Option ℕ → Result Given Why
-with_vpi g x = Ok (record { phase = g.phase; lead = g.lead; vpi = x; vci = g.vci; header = g.header; f3 = g.f3 })
+with_vpi g x = Ok (record g { vpi = x })
 
 abbrev with_vci : Given → Option ℕ → Result Given Why
-with_vci g x = Ok (record { phase = g.phase; lead = g.lead; vpi = g.vpi; vci = x; header = g.header; f3 = g.f3 })
+with_vci g x = Ok (record g { vci = x })
 
 abbrev with_header : Given → Option ℕ → Result Given Why
-with_header g x = Ok (record { phase = g.phase; lead = g.lead; vpi = g.vpi; vci = g.vci; header = x; f3 = g.f3 })
+with_header g x = Ok (record g { header = x })
 
 abbrev with_f3 : Given → Option ℕ → Result Given Why
-with_f3 g x = Ok (record { phase = g.phase; lead = g.lead; vpi = g.vpi; vci = g.vci; header = g.header; f3 = x })
+with_f3 g x = Ok (record g { f3 = x })
 
 abbrev pub gave : Given → Name → ℕ → List ℕ → Result Given Why
 gave g Phase at v = then (spelled v) (λ n. then (in_range n 1 (2 ^ 31 - 1)) (λ x. then (once_more g.phase x) (with_phase g)))
@@ -100,15 +99,11 @@ read_from g at (name ∷ value ∷ words) =
 
 -- ---- what they ask for
 
-abbrev or_else : ℕ → Option ℕ → ℕ
-or_else usual None = usual
-or_else usual (Some x) = x
-
 abbrev pub header_of : Given → ℕ
-header_of g = elim g.header [ None ↦ or_else 0 g.vpi * 2 ^ 20 + or_else 100 g.vci * 2 ^ 4 | Some h ↦ h ]
+header_of g = elim g.header [ None ↦ unwrap_or g.vpi 0 * 2 ^ 20 + unwrap_or g.vci 100 * 2 ^ 4 | Some h ↦ h ]
 
 abbrev pub arguments_of : Given → Arguments
-arguments_of g = record { phase = or_else 1 g.phase; lead = or_else 32 g.lead; header = record { 0 = header_of g }; f3 = g.f3 }
+arguments_of g = record { phase = unwrap_or g.phase 1; lead = unwrap_or g.lead 32; header = record { 0 = header_of g }; f3 = g.f3 }
 
 abbrev pub parsed : List (List ℕ) → Result Arguments (Fault Why)
 parsed words = elim (read_from nothing 0 words) [ Ok g ↦ Ok (arguments_of g) | Err e ↦ Err e ]

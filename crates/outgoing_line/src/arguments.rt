@@ -1,11 +1,11 @@
 //! The arguments: what they ask for, or why they are refused.
-ghost use Rattle.std.specs.Prelude.{◌≡◌, ◌+◌, ◌^◌, ◌<◌, Some, map, length, string_bytes};
+ghost use Rattle.std.specs.Prelude.{◌≡◌, ◌+◌, ◌-◌, ◌^◌, ◌<◌, Some, map, length, string_bytes};
 ghost use Rattle.outgoing_line.specs.Arguments.{spelled, in_range, once_more, field_given, header_given, gave, taken, alone, header_of, arguments_of, read_from, parsed, why_text};
 
 use crate::name::Name;
 use cell::header::Header;
 use command_line::fault::Fault;
-use scrambler::generator::LAST_PHASE;
+use scrambler::generator::check_phase;
 use std::fmt;
 use text::number;
 
@@ -77,10 +77,7 @@ fn read(given: Given, at: usize, words: &[String]) -> Result<Given, Fault<Why>>
 fn lacking(name: &str) -> Why
     ensures { result ≡ alone name.now }
 {
-    match name.parse::<Name>() {
-        Ok(_) => Why::NoValue,
-        Err(why) => why,
-    }
+    name.parse::<Name>().err().unwrap_or(Why::NoValue)
 }
 
 // The arguments that stand in the words read so far.
@@ -108,7 +105,7 @@ impl Given {
     {
         match name {
             Name::Phase => Ok(Given {
-                phase: once(self.phase, ranged(spelled(value)?, 1, LAST_PHASE)?)?,
+                phase: once(self.phase, running(spelled(value)?)?)?,
                 ..self
             }),
             Name::Lead => Ok(Given {
@@ -194,15 +191,12 @@ fn spelled(value: &[u8]) -> Result<u32, Why>
     number::read(value).ok_or(Why::NoNumber)
 }
 
-// A value from the least to the most.
-fn ranged(value: u32, least: u32, most: u32) -> Result<u32, Why>
-    ensures { result ≡ in_range value least most }
+// A phase that cells are coded at.
+fn running(phase: u32) -> Result<u32, Why>
+    ensures { result ≡ in_range phase 1 (2 ^ 31 - 1) }
 {
-    if (least..=most).contains(&value) {
-        Ok(value)
-    } else {
-        Err(Why::OutOfRange)
-    }
+    check_phase(phase).map_err(|_| Why::OutOfRange)?;
+    Ok(phase)
 }
 
 // The value of an argument that did not stand before.

@@ -1,6 +1,6 @@
 //! The payload of F3 cells, as an input gives it.
 ghost use Rattle.std.specs.Prelude.{◌≡◌};
-ghost use Rattle.outgoing_line.specs.F3Payload.{PayloadAnswer};
+ghost use Rattle.outgoing_line.specs.F3Payload.{PayloadAnswer, error_text};
 ghost use Rattle.outgoing_line.specs.declared.f3_payload.PayloadError.TheVariants.{Unread};
 
 use cell::sizes::PAYLOAD_OCTETS;
@@ -39,6 +39,8 @@ pub fn read<R: Read>(input: &mut R) -> Result<[u8; PAYLOAD_OCTETS], PayloadError
 }
 
 impl fmt::Display for PayloadError {
+    ghost output = { error_text };
+
     fn fmt<W: fmt::Write>(&self, f: &mut fmt::Formatter<W>) -> fmt::Result {
         match self {
             PayloadError::Unread(error) => write!(f, "the F3 payload cannot be read: {error}"),

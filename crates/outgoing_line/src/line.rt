@@ -1,14 +1,20 @@
 //! The line as it goes out: the sending end, its phase, and what was sent so far.
-ghost use Rattle.std.specs.Prelude.{◌≡◌, ◌^◌, ◌<◌, MatchResult};
-ghost use Rattle.sender.specs.Sender.{fresh, started, with_f3, kind_sent, Sends, StartWhy};
-ghost use Rattle.outgoing_line.specs.Tally.{none, counted_cell, counted_octets};
+ghost use Rattle.std.specs.Prelude.{◌≡◌, ◌^◌, ◌<◌, MatchResult, OnOk};
+ghost use Rattle.blocks.specs.BlockSource.{source_of};
+ghost use Rattle.sender.specs.Sender.{fresh, started, with_f3, StartWhy};
+ghost use Rattle.outgoing_line.specs.Tally.{none, counted_octets};
+ghost use Rattle.outgoing_line.specs.Sending.{CellSent, UnusedSent, WaitingSent};
 
 use crate::summary::Summary;
 use crate::tally::Tally;
+use blocks::block_source::BlockSource;
+use cell::header::Header;
 use cell::refusal::Refusal;
-use cell::sizes::{LINE_OCTETS, PAYLOAD_OCTETS};
-use ports::source::Source;
+use cell::sizes::PAYLOAD_OCTETS;
+use ports::source::{CountedSource, Source};
 use sender::sender::Sender;
+use std::io;
+use std::io::Write;
 
 #[derive(Drop)]
 pub struct Line {
@@ -39,14 +45,54 @@ impl Line {
         };
     }
 
-    /// Sends the next cell, and counts it: its octets on the line.
-    pub fn next_cell<S: Source>(&mut self, source: &mut S) -> [u8; LINE_OCTETS]
-        ensures sent { Sends self.old.sender (S.Source.waiting source.old) (kind_sent self.old.sender (S.Source.waiting source.old)) result self.new.sender (S.Source.waiting source.new) }
-        ensures tally { self.new.tally ≡ counted_cell (kind_sent self.old.sender (S.Source.waiting source.old)) self.old.tally }
+    /// Sends so many cells while no user cell waits, and writes out their octets.
+    #[tactic(auto, using(crate::proofs::Sendings::unused_begun, crate::proofs::Sendings::unused_sent))]
+    pub fn send_unused<W: Write>(&mut self, cells: u32, out: &mut W) -> io::Result<()>
+        ensures { OnOk result (UnusedSent cells self.old (W.contents out.old) self.new (W.contents out.new)) }
+    {
+        let mut none = BlockSource::new(Header::IDLE, &[]);
+        for _ in 0..cells {
+            self.send_cell(&mut none, out)?;
+        }
+        Ok(())
+    }
+
+    /// Sends cells until all that carry a block are out, and writes out their octets. At most the first 65,536 octets of the block are
+    /// carried, under its header, and none under a reserved one.
+    pub fn send_block<W: Write>(
+        &mut self,
+        header: Header,
+        block: &[u8],
+        out: &mut W,
+    ) -> io::Result<()>
+        ensures { OnOk result (WaitingSent (source_of header.0 block.now) self.old (W.contents out.old) self.new (W.contents out.new)) }
+    {
+        self.send_waiting(&mut BlockSource::new(header, block), out)
+    }
+
+    // Sends cells until no user cell waits, and writes out their octets.
+    #[tactic(auto, using(crate::proofs::Sendings::waiting_begun, crate::proofs::Sendings::waiting_sent, crate::proofs::Sendings::waiting_out))]
+    fn send_waiting<S: CountedSource, W: Write>(
+        &mut self,
+        source: &mut S,
+        out: &mut W,
+    ) -> io::Result<()>
+        ensures { OnOk result (WaitingSent (S.Source.waiting source.old) self.old (W.contents out.old) self.new (W.contents out.new)) }
+    {
+        while source.count() > 0 {
+            self.send_cell(source, out)?;
+        }
+        Ok(())
+    }
+
+    // Sends the next cell, counts it, and writes out its octets.
+    #[tactic(auto, using(crate::proofs::Sendings::cell_sent))]
+    fn send_cell<S: Source, W: Write>(&mut self, source: &mut S, out: &mut W) -> io::Result<()>
+        ensures { OnOk result (CellSent self.old (S.Source.waiting source.old) (W.contents out.old) self.new (S.Source.waiting source.new) (W.contents out.new)) }
     {
         let (kind, octets) = self.sender.send_next(source);
         self.tally.count_cell(kind);
-        octets
+        out.write_all(&octets)
     }
 
     /// Counts octets that were read.

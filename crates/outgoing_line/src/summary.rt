@@ -1,4 +1,7 @@
 //! The summary of a line.
+ghost use Rattle.std.specs.Prelude.{Some};
+ghost use Rattle.outgoing_line.specs.Summary.{summary_text};
+
 use crate::tally::Tally;
 use std::fmt;
 
@@ -10,6 +13,8 @@ pub struct Summary {
 }
 
 impl fmt::Display for Summary {
+    ghost output = { λ summary. Some (summary_text summary) };
+
     fn fmt<W: fmt::Write>(&self, f: &mut fmt::Formatter<W>) -> fmt::Result {
         let Summary { tally, phase } = *self;
         write!(f, "{tally}; phase at the end 0x{phase:08X}")

@@ -39,6 +39,7 @@ impl Tally {
 impl fmt::Display for Tally {
     ghost output = { λ t. Some (tally_text t) };
 
+    #[tactic(auto, unfolding(crate::specs::Tally::tally_text))]
     fn fmt<W: fmt::Write>(&self, f: &mut fmt::Formatter<W>) -> fmt::Result {
         let Tally {
             octets,

@@ -2,9 +2,6 @@
 //! cells without users, the cells of the block, and 8 cells more. A summary goes to standard error.
 #![tactic(auto)]
 
-use anyhow::anyhow;
-use blocks::block_source::BlockSource;
-use cell::header::Header;
 use cell::sizes::PAYLOAD_OCTETS;
 use command_line::fault::Fault;
 use command_line::input::fill;
@@ -13,7 +10,6 @@ use outgoing_line::arguments::Arguments;
 use outgoing_line::f3_payload;
 use outgoing_line::f3_payload::PayloadError;
 use outgoing_line::line::Line;
-use ports::source::CountedSource;
 use std::io::{BufWriter, Write};
 use std::process::ExitCode;
 use std::{fs, io};
@@ -44,9 +40,7 @@ fn run(rt: &HostRuntime) -> anyhow::Result<ExitCode> {
         Ok(arguments) => arguments,
         Err(fault) => return Ok(fault.refuse(rt, USAGE, &words)?),
     };
-    let Ok(mut line) = Line::start(arguments.phase) else {
-        return Err(anyhow!("the phase is out of range"));
-    };
+    let mut line = Line::start(arguments.phase)?;
     if let Some(at) = arguments.f3 {
         match payload_in(rt, word(&words, at)) {
             Ok(payload) => line.set_f3(&payload),
@@ -72,41 +66,16 @@ fn send(
     part: &mut [u8],
 ) -> io::Result<()> {
     let mut out = BufWriter::new(rt.alloc(), rt.stdout())?;
-    send_unused(line, arguments.lead, &mut out)?;
+    line.send_unused(arguments.lead, &mut out)?;
     // Nothing says that an input ends, so a count bounds the loop.
     for _ in 0..u64::MAX {
         let octets = fill(&mut rt.stdin(), part)?;
         line.count_octets(octets);
-        send_part(line, arguments.header, &part[0..octets], &mut out)?;
+        line.send_block(arguments.header, &part[0..octets], &mut out)?;
         if octets < part.len() {
             break;
         }
     }
-    send_unused(line, TRAIL_CELLS, &mut out)?;
+    line.send_unused(TRAIL_CELLS, &mut out)?;
     out.flush()
-}
-
-// Sends cells in which no user cell waits.
-fn send_unused<W: Write>(line: &mut Line, cells: u32, out: &mut W) -> io::Result<()> {
-    let mut none = BlockSource::new(Header::IDLE, &[]);
-    for _ in 0..cells {
-        let octets = line.next_cell(&mut none);
-        out.write_all(&octets)?;
-    }
-    Ok(())
-}
-
-// Sends cells until each one of the part is out.
-fn send_part<W: Write>(
-    line: &mut Line,
-    header: Header,
-    part: &[u8],
-    out: &mut W,
-) -> io::Result<()> {
-    let mut source = BlockSource::new(header, part);
-    while source.count() > 0 {
-        let octets = line.next_cell(&mut source);
-        out.write_all(&octets)?;
-    }
-    Ok(())
 }

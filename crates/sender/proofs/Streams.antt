@@ -17,7 +17,7 @@ use Rattle.scrambler.specs.Generator.{step, iterate}
 use Rattle.scrambler.proofs.Codes.{coded_header_on, carries_samples}
 use Rattle.scrambler.proofs.Steps.{iterate_add}
 use Rattle.sender.specs.Sender.{SenderState, idle_cell, waiting_kind, waiting_cell, rest, advanced, f3_cell, Octets, with_f3}
-use Rattle.sender.specs.Stream.{Send, Accepted, Run, none, more, f3_set, Begins, made, start, cells_of, line_of, coded_from, lost_to, header_on, CellLaws, Parted, StreamLaws}
+use Rattle.sender.specs.Stream.{Send, Accepted, Run, none, more, f3_set, Begins, made, start, cells_of, line_of, coded_from, lost_to, lost, header_on, CellLaws, Parted, StreamLaws}
 use Rattle.sender.proofs.Octets.{coded-octets}
 use Rattle.sender.proofs.Phases.{steps_running}
 
@@ -146,6 +146,9 @@ module _ (x : Send) (b : SenderState) (next : SenderState) (sent : Accepted b x 
       ∙ ap (λ (y : ℕ). coded_header y x.phase) h in
       subst (λ (l : LineHeader). CarriesSamples l x.phase) (sym on) (carries_samples x.cell.header x.phase)
 
+  pub sent_taken : x.waiting ≡ lost x ++ x.left
+  sent_taken = taken_by_lem (eqb b.number 0) (f3_cell b) x.waiting x.kind x.cell x.left sent.sends.sort sent.cell sent.sends.left
+
   cell_laws : (p : ℕ) (front : List Send) → 0 < p → p < 2 ^ 31
       → b.phase ≡ iterate (424 * length front) step p → b.number ≡ length front % 432 → CellLaws p front x
   cell_laws p front low high phase number =
@@ -165,7 +168,7 @@ module _ (x : Send) (b : SenderState) (next : SenderState) (sent : Accepted b x 
             (alone.0, sent.cell ∙ alone.1));
         kind = (sent_header_lt, sent_kind);
         header = sent_carries;
-        taken = taken_by_lem (eqb b.number 0) (f3_cell b) x.waiting x.kind x.cell x.left sent.sends.sort sent.cell sent.sends.left;
+        taken = sent_taken;
       }
 
 -- ---- of runs

@@ -1,11 +1,12 @@
 -- Cells that go out one after the other, and their octets. A line is l before and l' after, and what the writer of the octets is known to hold,
 -- w and w'. The list `cells` of user cells waits in a source before, and `rest` after.
 --
---   Goes l cells x l'                 the send x goes out, and is counted
---   Sent l cells xs l' rest           the sends xs go out one after the other, each from what the one before left in the source
---   CellSent l cells w l' rest w'     one cell goes out, and the writer takes its octets
---   UnusedSent n l w l' w'            n cells go out while no user cell waits, and the writer takes their octets, in order
---   WaitingSent cells l w l' w'         cells go out until all user cells that wait are out, and the writer takes their octets, in order
+--   Goes l cells x l'              the send x goes out, and is counted
+--   Sent l cells xs l' rest        the sends xs go out one after the other, each from what the one before left in the source, and no F3 payload is
+--                                  set between them
+--   CellSent l cells w l' rest w'  one cell goes out, and the writer takes its octets
+--   UnusedSent n l w l' w'         n cells go out while no user cell waits, and the writer takes their octets, in order
+--   WaitingSent cells l w l' w'    cells go out until the user cells that wait are out, and the writer takes their octets, in order
 use Rattle.std.specs.Prelude.{◌≡◌, ℕ, List, [], ◌∷◌, length, Option, ◌≢◌, All}
 use Rattle.std.specs.Io.KnownBytes.{Appends}
 use Rattle.ports.specs.Cell.{Cell}

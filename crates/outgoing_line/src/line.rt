@@ -1,6 +1,7 @@
 //! The line as it goes out: the sending end, its phase, and what was sent so far.
-ghost use Rattle.std.specs.Prelude.{◌≡◌, ◌^◌, ◌<◌, MatchResult, OnOk};
+ghost use Rattle.std.specs.Prelude.{◌≡◌, MatchResult, OnOk};
 ghost use Rattle.blocks.specs.BlockSource.{source_of};
+ghost use Rattle.scrambler.specs.Generator.{Running};
 ghost use Rattle.sender.specs.Sender.{fresh, started, with_f3, StartWhy};
 ghost use Rattle.outgoing_line.specs.Tally.{none, counted_octets};
 ghost use Rattle.outgoing_line.specs.Sending.{CellSent, UnusedSent, WaitingSent};
@@ -25,7 +26,7 @@ pub struct Line {
 impl Line {
     /// A line whose first cell has this phase. Refuses a phase of 0 or above 2^31 - 1.
     pub fn start(phase: u32) -> Result<Line, Refusal>
-        ensures { MatchResult result (λ l. (0 < phase) × (phase < 2 ^ 31) × (l.sender ≡ started fresh phase) × (l.tally ≡ none)) (λ e. StartWhy phase e) }
+        ensures { MatchResult result (λ l. Running phase × (l.sender ≡ started fresh phase) × (l.tally ≡ none)) (λ e. StartWhy phase e) }
     {
         let mut sender = Sender::new();
         sender.start(phase)?;
@@ -85,7 +86,7 @@ impl Line {
         Ok(())
     }
 
-    // Sends the next cell, counts it, and writes out its octets.
+    // Sends the next cell, counts it, and writes out its octets. A cell that cannot be written is counted too.
     #[tactic(auto, using(crate::proofs::Sendings::cell_sent))]
     fn send_cell<S: Source, W: Write>(&mut self, source: &mut S, out: &mut W) -> io::Result<()>
         ensures { OnOk result (CellSent self.old (S.Source.waiting source.old) (W.contents out.old) self.new (S.Source.waiting source.new) (W.contents out.new)) }

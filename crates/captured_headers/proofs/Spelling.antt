@@ -4,12 +4,21 @@ use Rattle.std.proofs.lemmas.Bool.Decides.{nat_tests}
 use Rattle.cell.specs.LineHeader.{of_bits}
 use Rattle.cell.specs.declared.line_header.LineHeader.{LineHeader}
 use Rattle.captured_headers.specs.Capture.{Spelt, character_of, Spells, nothing, blank, octet, Stops, not_hex, not_hex_second, blank_inside, ends, Cut, Faulty, cut, few, many, Reads, NoHeader, of_octets}
-use Rattle.captured_headers.specs.Reading.{start, begun, after, ends_with, read_from}
+use Rattle.captured_headers.specs.Reading.{begun, after, ends_with, at_end}
 use Rattle.captured_headers.specs.declared.capture.Fault.{Fault}
 use Rattle.captured_headers.specs.declared.capture.Fault.TheVariants.{NotHex, HalfOctet, TooFew, TooMany}
 use Rattle.captured_headers.specs.declared.character.Character.{Character}
 use Rattle.captured_headers.specs.declared.character.Character.TheVariants.{Blank, Digit, Other}
 use Rattle.captured_headers.specs.declared.capture.Reading.{Reading}
+
+-- nothing is read yet
+abbrev pub start : Reading
+start = record { octets = 0; word = 0; half = None }
+
+-- what the line spells, of which r is read, n characters, and l is left
+abbrev pub read_from : Reading → ℕ → List ℕ → Spelt
+read_from r n [] = at_end r n
+read_from r n (c ∷ l) = elim (after r n (character_of c)) [ Ok s ↦ read_from s (n + 1) l | Err f ↦ Err f ]
 
 -- k whole octets, the last five of them in w
 abbrev between : ℕ → ℕ → Reading

@@ -6,9 +6,10 @@
 --   OneMended x r   if x was sent with its own check octet and one bit came wrong, r names the bit and what was sent
 --   TwoFound x r    if two bits came wrong, r is past mending
 --   Finds l r       r is the finding on the header l under the verdict on its syndrome, and so all of these
-use Rattle.std.specs.Prelude.{◌≡◌, ℕ, ◌/◌, ◌^◌, ◌<◌, ◌≢◌}
-use Rattle.cell.specs.LineHeader.{bits40, of_bits, turned, Codeword, syndrome_of}
-use Rattle.cell.specs.Header.{kind_of}
+--   finding_text r  what is printed of the finding r, as octets of text
+use Rattle.std.specs.Prelude.{◌≡◌, ℕ, ◌/◌, ◌^◌, ◌<◌, ◌≢◌, List, ◌++◌, codes, decimal}
+use Rattle.cell.specs.LineHeader.{bits40, of_bits, turned, Codeword, syndrome_of, line_text}
+use Rattle.cell.specs.Header.{kind_of, kind_name}
 use Rattle.cell.specs.Verdict.{verdict_of}
 use Rattle.cell.specs.declared.line_header.LineHeader.{LineHeader}
 use Rattle.cell.specs.declared.verdict.Verdict.{Verdict}
@@ -38,3 +39,8 @@ pub record Finds (l : LineHeader) (r : Finding) : Type 0 where
   pub clean : CleanSent (bits40 l) r
   pub one : OneMended (bits40 l) r
   pub two : TwoFound (bits40 l) r
+
+abbrev pub finding_text : Finding → List ℕ
+finding_text Clean = codes "clean"
+finding_text (OneWrongBit i l k) = codes "bit " ++ (decimal i ++ (codes " wrong, mended " ++ (line_text l ++ (codes " " ++ kind_name k))))
+finding_text PastMending = codes "past mending"

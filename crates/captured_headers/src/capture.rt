@@ -7,7 +7,6 @@ ghost use Rattle.captured_headers.specs.Reading.{after, at_end};
 use crate::character::Character;
 use cell::line_header::LineHeader;
 use cell::sizes::LINE_HEADER_OCTETS;
-use std::error::Error;
 use std::fmt;
 
 /// Why a line is no header. Columns count octets, from 1.
@@ -35,8 +34,6 @@ impl fmt::Display for Fault {
         }
     }
 }
-
-impl Error for Fault {}
 
 /// The header that a line without its line end spells, as received; none where the line is nothing but blanks.
 pub fn read(line: &[u8]) -> Result<Option<LineHeader>, Fault>

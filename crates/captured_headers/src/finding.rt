@@ -1,6 +1,6 @@
 //! What is found out of a header as received: its verdict, and what it was where one bit came wrong.
-ghost use Rattle.std.specs.Prelude.{◌≡◌};
-ghost use Rattle.captured_headers.specs.Finding.{finding_of, Finds};
+ghost use Rattle.std.specs.Prelude.{◌≡◌, Some};
+ghost use Rattle.captured_headers.specs.Finding.{finding_of, Finds, finding_text};
 
 use cell::header::Kind;
 use cell::line_header::LineHeader;
@@ -41,6 +41,8 @@ fn under(received: LineHeader, verdict: Verdict) -> Finding
 }
 
 impl fmt::Display for Finding {
+    ghost output = { λ finding. Some (finding_text finding) };
+
     fn fmt<W: fmt::Write>(&self, f: &mut fmt::Formatter<W>) -> fmt::Result {
         match *self {
             Finding::Clean => f.write_str("clean"),

@@ -1,10 +1,10 @@
 //! What is said of a line of a capture.
-ghost use Rattle.captured_headers.specs.Remark.{RemarkOn};
+ghost use Rattle.std.specs.Prelude.{Some};
+ghost use Rattle.captured_headers.specs.Remark.{RemarkOn, complaint_text};
 
 use crate::capture::Fault;
 use crate::report::Report;
 use crate::{capture, line_end};
-use std::error::Error;
 use std::fmt;
 
 /// A report on a header, none of an empty line, and else a complaint.
@@ -18,16 +18,16 @@ pub struct Complaint {
 }
 
 impl fmt::Display for Complaint {
+    ghost output = { λ complaint. Some (complaint_text complaint) };
+
     fn fmt<W: fmt::Write>(&self, f: &mut fmt::Formatter<W>) -> fmt::Result {
         let Complaint { line_number, fault } = *self;
         write!(f, "{line_number:>5}  malformed: {fault}")
     }
 }
 
-impl Error for Complaint {}
-
-/// What is said of a line, which may have its line end.
-pub fn remark_on(line_number: u64, line: &[u8]) -> Remark
+// What is said of a line, which may have its line end.
+pub(crate) fn remark_on(line_number: u64, line: &[u8]) -> Remark
     ensures { RemarkOn line.now line_number result }
 {
     let header = capture::read(line_end::body(line)).map_err(|fault| Complaint {

@@ -1,8 +1,9 @@
 //! What is said of a header.
-ghost use Rattle.std.specs.Prelude.{◌≡◌};
+ghost use Rattle.std.specs.Prelude.{◌≡◌, Some};
+ghost use Rattle.std.specs.Fmt.{WritesOnOk};
 ghost use Rattle.cell.specs.LineHeader.{bits40};
 ghost use Rattle.captured_headers.specs.Finding.{CleanSent, OneMended, TwoFound};
-ghost use Rattle.captured_headers.specs.Report.{report_of};
+ghost use Rattle.captured_headers.specs.Report.{report_of, received_text, fields_text, found_text, report_text};
 
 use crate::finding::Finding;
 use cell::header::{Fields, Kind};
@@ -42,15 +43,36 @@ impl Report {
 }
 
 impl fmt::Display for Report {
+    ghost output = { λ report. Some (report_text report) };
+
     fn fmt<W: fmt::Write>(&self, f: &mut fmt::Formatter<W>) -> fmt::Result {
+        self.write_received(f)?;
+        self.write_fields(f)?;
+        self.write_found(f)
+    }
+}
+
+// The text in three parts: with more fields to a part no proof is found.
+impl Report {
+    fn write_received<W: fmt::Write>(&self, f: &mut fmt::Formatter<W>) -> fmt::Result
+        ensures { WritesOnOk W.write_str_gives f.old result (received_text self.now) f.new }
+    {
         let Report {
             line_number,
             received,
+            kind,
+            ..
+        } = *self;
+        write!(f, "{line_number:>5}  {received}  {kind:<4}  ")
+    }
+
+    fn write_fields<W: fmt::Write>(&self, f: &mut fmt::Formatter<W>) -> fmt::Result
+        ensures { WritesOnOk W.write_str_gives f.old result (fields_text self.now) f.new }
+    {
+        let Report {
             fields,
             connection,
-            kind,
-            syndrome,
-            finding,
+            ..
         } = *self;
         let Fields {
             gfc,
@@ -61,11 +83,19 @@ impl fmt::Display for Report {
         } = fields;
         write!(
             f,
-            "{line_number:>5}  {received}  {kind:<4}  GFC {gfc:>2}  VPI {vpi:>3}  VCI {vci:>5}  PT {pt}  CLP {clp}  "
-        )?;
-        write!(
-            f,
-            "connection {connection:>8}  syndrome {syndrome:02X}  {finding}"
+            "GFC {gfc:>2}  VPI {vpi:>3}  VCI {vci:>5}  PT {pt}  CLP {clp}  connection {connection:>8}  "
         )
+    }
+
+    #[tactic(auto, using(std::proofs::lemmas::Fmt::hex_byte))]
+    fn write_found<W: fmt::Write>(&self, f: &mut fmt::Formatter<W>) -> fmt::Result
+        ensures { WritesOnOk W.write_str_gives f.old result (found_text self.now) f.new }
+    {
+        let Report {
+            syndrome,
+            finding,
+            ..
+        } = *self;
+        write!(f, "syndrome {syndrome:02X}  {finding}")
     }
 }

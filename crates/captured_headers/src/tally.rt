@@ -1,14 +1,14 @@
 //! Counts over a whole capture.
-ghost use Rattle.std.specs.Prelude.{◌≡◌};
+ghost use Rattle.std.specs.Prelude.{◌≡◌, Some};
 ghost use Rattle.captured_headers.specs.Remark.{RemarkOn};
-ghost use Rattle.captured_headers.specs.Tally.{none, counted, headers_in};
+ghost use Rattle.captured_headers.specs.Tally.{counted, headers_in, tally_text};
 
 use crate::finding::Finding;
 use crate::remark::{Remark, remark_on};
 use std::fmt;
 use std::num::Saturating;
 
-/// A counter stops at its top.
+/// Counts of lines. A counter stops at its top.
 #[derive(Clone, Copy, Default)]
 pub struct Tally {
     pub clean: Saturating<u64>,
@@ -18,13 +18,6 @@ pub struct Tally {
 }
 
 impl Tally {
-    /// Nothing is counted yet.
-    pub fn new() -> Tally
-        ensures { result ≡ none }
-    {
-        Tally::default()
-    }
-
     /// What is said of a line, which may have its line end; and counts it.
     pub fn take(&mut self, line_number: u64, line: &[u8]) -> Remark
         ensures remark { RemarkOn line.now line_number result }
@@ -49,8 +42,8 @@ impl Tally {
         }
     }
 
-    /// Headers of any finding.
-    pub fn headers(&self) -> u64
+    // Headers of any finding.
+    fn headers(&self) -> u64
         ensures { result ≡ headers_in self.now }
     {
         (self.clean + self.one_wrong_bit + self.past_mending).0
@@ -58,6 +51,8 @@ impl Tally {
 }
 
 impl fmt::Display for Tally {
+    ghost output = { λ t. Some (tally_text t) };
+
     fn fmt<W: fmt::Write>(&self, f: &mut fmt::Formatter<W>) -> fmt::Result {
         let headers = self.headers();
         let Tally {

@@ -13,7 +13,7 @@ fn main(rt: HostRuntime) -> anyhow::Result<()> {
 fn run(rt: &HostRuntime) -> anyhow::Result<()> {
     let mut input = BufReader::new(rt.alloc(), rt.stdin())?;
     let mut line = Vec::new(rt.alloc());
-    let mut tally = Tally::new();
+    let mut tally = Tally::default();
     // Nothing says that an input ends, so the numbers of its lines bound the loop: a `while` over its lines would have no measure, and
     // `split` would not tell whether the last line has an end.
     for line_number in 1..u64::MAX {

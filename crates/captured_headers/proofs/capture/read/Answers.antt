@@ -1,8 +1,8 @@
 use Rattle.std.proofs.Common.{◌≡◌, ◌+◌, length, get_or, drop, sym, ap, ◌∙◌, arith, Err}
 use Rattle.std.proofs.lemmas.List.{at_drop_more, at_drop_all}
 use Rattle.std.proofs.lemmas.Result.{err_from_is_err_and}
-use Rattle.captured_headers.specs.Reading.{at_end, read_from}
-use Rattle.captured_headers.proofs.Spelling.{told, read_fault}
+use Rattle.captured_headers.specs.Reading.{at_end}
+use Rattle.captured_headers.proofs.Spelling.{read_from, told, read_fault}
 use Rattle.captured_headers.proofs.capture.read.Goals as goal
 
 pub returns-in_err-reading : goal.returns-in_err-reading

@@ -1,6 +1,6 @@
 -- What is left of the line gives the answer, from what is read so far.
 use Rattle.std.proofs.Common.{◌≡◌, ◌≤◌, drop}
-use Rattle.captured_headers.specs.Reading.{start, read_from}
+use Rattle.captured_headers.proofs.Spelling.{start, read_from}
 use Rattle.captured_headers.proofs.capture.read.Given as goal
 
 abbrev pub invariant-loop-before : goal.invariant-loop-before

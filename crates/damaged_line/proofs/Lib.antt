@@ -2,3 +2,4 @@ pub mod Words
 pub mod Standing
 pub mod Counting
 pub mod Rounds
+pub mod Marks

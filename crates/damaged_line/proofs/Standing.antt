@@ -7,7 +7,7 @@ use Rattle.ports.specs.Cell.{Cell, User}
 use Rattle.ports.specs.Sink.{SinkState}
 use Rattle.receiver.specs.Feed.{Events, FeedAnswer, was_reset}
 use Rattle.receiver.specs.declared.receiver.Receiver.{Receiver}
-use Rattle.sender.specs.Sender.{SenderState, StartAnswer, SendAnswer, F3Answer}
+use Rattle.sender.specs.Sender.{SenderState, StartAnswer, Sends, F3Answer}
 use Rattle.line.specs.Receiving as receiving
 use Rattle.line.specs.Sending as sending
 use Rattle.line.specs.Theorem.{LineTheorem}
@@ -31,14 +31,10 @@ module _ (t : LineTheorem) where
       → F3Answer s f answer s' → Stand (record { sender = s'; receiver = r })
   set_f3_stands {s' = s'} f answer e told = record { sender = sent_by (e.sender.holds.set_f3 f answer s' told); receiver = e.receiver }
 
-  pub send_stands : {s s' : SenderState} {r : Receiver} (waiting waiting' : List Cell) (place place' : List ℕ) (answer : Result Kind Refusal)
-      → Stand (record { sender = s; receiver = r }) → AllByRecursion User waiting → SendAnswer s waiting place answer s' waiting' place'
-      → Stand (record { sender = s'; receiver = r })
-  send_stands {s' = s'} waiting waiting' place place' answer e users told =
-      record {
-        sender = sent_by (e.sender.holds.send (record { waiting = waiting; place = place; answer = answer; waiting' = waiting'; place' = place' }) s' users told);
-        receiver = e.receiver;
-      }
+  pub send_stands : {s s' : SenderState} {r : Receiver} (waiting waiting' : List Cell) (kind : Kind) (line : List ℕ) → Stand (record { sender = s; receiver = r })
+      → AllByRecursion User waiting → Sends s waiting kind line s' waiting' → Stand (record { sender = s'; receiver = r })
+  send_stands {s' = s'} waiting waiting' kind line e users told =
+      record { sender = sent_by (e.sender.holds.send_next waiting waiting' kind line s' users told); receiver = e.receiver }
 
   pub feed_stands : {s : SenderState} {r r' : Receiver} (os : List ℕ) (k k' : SinkState) (q q' : Events) (answer : Result ℕ Refusal) → Stand (record { sender = s; receiver = r })
       → FeedAnswer os r k q answer r' k' q' → Stand (record { sender = s; receiver = r' })

@@ -4,10 +4,13 @@
 --   octet_of text   the number below 256 that a text spells, if it spells one
 --   Spells line c   c is the command that the line spells, or it spells none and c is None
 --   Reads line r    r is that command, or none where the line is skipped, or the error where it is not and spells none
-use Rattle.std.specs.Prelude.{◌≡◌, ℕ, ◌^◌, Bool, true, false, cond, List, [], ◌∷◌, Some, None, Ok, Err, codes, Option, option_map, Result, ◌==◌, ◌≢◌, nat_lt}
+--   command_text c  what is printed of the command c, as octets of text
+use Rattle.std.specs.Prelude.{◌≡◌, ℕ, ◌^◌, Bool, true, false, cond, List, [], ◌∷◌, ◌++◌, Some, None, Ok, Err, codes, decimal, Option, option_map, Result, ◌==◌, ◌≢◌, nat_lt}
 use Rattle.text.specs.Number.{number_of}
 use Rattle.text.specs.Words.{first_word, other_words}
-use Rattle.damaged_line.specs.Damage.{damage_of}
+use Rattle.cell.specs.LineHeader.{octet_text}
+use Rattle.tracker.specs.Display.{hex8}
+use Rattle.damaged_line.specs.Damage.{damage_of, damage_text}
 use Rattle.damaged_line.specs.declared.command.Command.{Command}
 use Rattle.damaged_line.specs.declared.command.Command.TheVariants.{Pass, Turn, Noise, Start, F3, Reset}
 use Rattle.damaged_line.specs.declared.command.Malformed.{Malformed}
@@ -33,3 +36,11 @@ abbrev pub Reads : List ℕ → Result (Option Command) Malformed → Type 0
 Reads line (Ok None) = skipped line ≡ true
 Reads line (Ok (Some c)) = (skipped line ≡ false) × Spells line (Some c)
 Reads line (Err e) = (skipped line ≡ false) × Spells line None
+
+abbrev pub command_text : Command → List ℕ
+command_text (Pass n) = codes "pass " ++ decimal n
+command_text (Turn d) = codes "turn" ++ damage_text d
+command_text (Noise n) = codes "noise " ++ decimal n
+command_text (Start p) = codes "start 0x" ++ hex8 p
+command_text (F3 o) = codes "f3 0x" ++ octet_text o
+command_text Reset = codes "reset"

@@ -10,8 +10,10 @@
 --   marked_all d ws  the damage d with the bits besides that all of the words ws name, each once
 --   damage_of text   the damage that the words of a text name, a blank between each two
 --   turned d line    the octets of a cell on the line, with the bits of d turned
-use Rattle.std.specs.Prelude.{ℕ, ◌/◌, ◌%◌, ◌^◌, Bool, cond, not, List, [], ◌∷◌, map, replicate, Some, None, Option, ◌==◌, bit_and, bit_or, bit_xor, nat_lt, slice_index, slice_set}
-use Rattle.std.specs.List.{range_with_len, slice_split}
+--   mark_text d bit  what is printed of a bit, if d turns it: its number, behind a blank
+--   damage_text d    what is printed of all bits, in order
+use Rattle.std.specs.Prelude.{ℕ, ◌/◌, ◌%◌, ◌^◌, Bool, cond, not, List, [], ◌∷◌, ◌++◌, map, replicate, codes, decimal, Some, None, Option, ◌==◌, bit_and, bit_or, bit_xor, nat_lt, slice_index, slice_set}
+use Rattle.std.specs.List.{flat_map, range_with_len, slice_split}
 use Rattle.text.specs.Number.{number_of}
 use Rattle.text.specs.Words.{is_blank}
 use Rattle.damaged_line.specs.declared.damage.Damage.{Damage}
@@ -46,3 +48,9 @@ damage_of text = marked_all none (slice_split is_blank text)
 
 unfoldable pub turned : Damage → List ℕ → List ℕ
 turned d line = map (λ i. bit_xor (slice_index line i) (slice_index d.marks i)) (range_with_len 0 53)
+
+abbrev pub mark_text : Damage → ℕ → List ℕ
+mark_text d bit = cond (turns d bit) (codes " " ++ decimal bit) []
+
+unfoldable pub damage_text : Damage → List ℕ
+damage_text d = flat_map (mark_text d) (range_with_len 0 424)

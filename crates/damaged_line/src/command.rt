@@ -1,11 +1,12 @@
 //! The commands, one to a line: `pass N`, `turn BITS`, `noise N`, `start PHASE`, `f3 OCTET` and `reset`.
-ghost use Rattle.std.specs.Prelude.{◌≡◌};
-ghost use Rattle.damaged_line.specs.Command.{skipped, octet_of, Spells, Reads};
+ghost use Rattle.std.specs.Prelude.{◌≡◌, Some, codes};
+ghost use Rattle.damaged_line.specs.Command.{skipped, octet_of, Spells, Reads, command_text};
 
 use crate::damage::Damage;
 use std::fmt;
 use text::{number, words};
 
+/// What a line asks for.
 #[derive(Clone, Copy)]
 pub enum Command {
     /// so many cells go over the line as they are sent
@@ -71,8 +72,11 @@ fn octet(text: &[u8]) -> Option<u8>
 }
 
 impl fmt::Display for Command {
+    ghost output = { λ command. Some (command_text command) };
+
+    #[tactic(auto, using(std::proofs::lemmas::Fmt::hex_byte))]
     fn fmt<W: fmt::Write>(&self, f: &mut fmt::Formatter<W>) -> fmt::Result {
-        match self {
+        match *self {
             Command::Pass(cells) => write!(f, "pass {cells}"),
             Command::Turn(damage) => write!(f, "turn{damage}"),
             Command::Noise(octets) => write!(f, "noise {octets}"),
@@ -84,6 +88,8 @@ impl fmt::Display for Command {
 }
 
 impl fmt::Display for Malformed {
+    ghost output = { λ _. Some (codes "malformed") };
+
     fn fmt<W: fmt::Write>(&self, f: &mut fmt::Formatter<W>) -> fmt::Result {
         f.write_str("malformed")
     }

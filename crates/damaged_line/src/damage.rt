@@ -1,8 +1,8 @@
 //! Damage: which bits of a cell on the line are turned.
-ghost use Rattle.std.specs.Prelude.{◌≡◌, ◌<◌};
+ghost use Rattle.std.specs.Prelude.{◌≡◌, ◌<◌, Some};
 ghost use Rattle.text.specs.Words.{is_blank};
 ghost use Rattle.std.specs.List.{slice_split};
-ghost use Rattle.damaged_line.specs.Damage.{none, octet_at, mask_at, turns, marked, marked_if, marked_by, marked_all, damage_of, turned};
+ghost use Rattle.damaged_line.specs.Damage.{none, octet_at, mask_at, turns, marked, marked_if, marked_by, marked_all, damage_of, turned, damage_text};
 
 use cell::sizes;
 use cell::sizes::LINE_OCTETS;
@@ -18,8 +18,8 @@ pub struct Damage {
 }
 
 impl Damage {
-    /// No bit is turned.
-    pub fn none() -> Damage
+    // No bit is turned.
+    pub(crate) fn none() -> Damage
         ensures { result ≡ none }
     {
         Damage {
@@ -27,8 +27,8 @@ impl Damage {
         }
     }
 
-    /// The bits that the words of a text name, each once; none where a word names anything else.
-    pub fn read(text: &[u8]) -> Option<Damage>
+    // The bits that the words of a text name, each once; none where a word names anything else.
+    pub(crate) fn read(text: &[u8]) -> Option<Damage>
         ensures { result ≡ damage_of text.now }
     {
         Damage::none().read_more(text)
@@ -80,8 +80,8 @@ impl Damage {
         damage
     }
 
-    /// The octets of a cell on the line, with the marked bits turned, and no others.
-    pub fn turned(&self, line: &[u8; LINE_OCTETS]) -> [u8; LINE_OCTETS]
+    // The octets of a cell on the line, with the marked bits turned, and no others.
+    pub(crate) fn turned(&self, line: &[u8; LINE_OCTETS]) -> [u8; LINE_OCTETS]
         ensures { result ≡ turned self.now line.now }
     {
         let mut damaged = *line;
@@ -108,6 +108,8 @@ fn mask_at(bit: u32) -> u8
 
 // The numbers of the marked bits, each behind a blank.
 impl fmt::Display for Damage {
+    ghost output = { λ damage. Some (damage_text damage) };
+
     fn fmt<W: fmt::Write>(&self, f: &mut fmt::Formatter<W>) -> fmt::Result {
         for bit in 0..LINE_BITS {
             if self.turns(bit) {

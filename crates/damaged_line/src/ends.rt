@@ -4,11 +4,12 @@ ghost use Rattle.receiver.specs.Feed.{was_reset, events_of, FeedAnswer, Untouche
 ghost use Rattle.receiver.specs.Handing.{Unasked};
 ghost use Rattle.receiver.specs.Run.{bits_of};
 ghost use Rattle.receiver_words.specs.Readings.{readings_of};
-ghost use Rattle.sender.specs.Sender.{StartAnswer, SendAnswer, SourceAnswer, F3Answer};
+ghost use Rattle.sender.specs.Sender.{StartAnswer, Sends, NotAsked, with_f3};
 ghost use Rattle.damaged_line.specs.Ends.{Pair, made_pair, Stand};
 
 use cell::header::Kind;
 use cell::refusal::Refusal;
+use cell::sizes::{LINE_OCTETS, PAYLOAD_OCTETS};
 use line::theorem::line_theorem_holds;
 use ports::sink::Sink;
 use ports::source::Source;
@@ -47,13 +48,6 @@ impl Ends {
         }
     }
 
-    /// What the theorem of the line says holds of both ends: this call does nothing, and its contract shows it.
-    pub fn stand(&self)
-        ensures { Stand self.now }
-    {
-        let _ = &self.sender;
-    }
-
     /// The sending end starts again at this phase. Refuses a phase of 0 or above 2^31 - 1.
     pub fn start(&mut self, phase: u32) -> Result<(), Refusal>
         ensures answer { StartAnswer self.old.sender phase result self.new.sender }
@@ -63,23 +57,25 @@ impl Ends {
         self.sender.start(phase)
     }
 
-    /// Sets the payload of the F3 cells that the sending end sends from now on. Refuses a payload not of 48 octets.
-    pub fn set_f3(&mut self, payload: &[u8]) -> Result<(), Refusal>
-        ensures answer { F3Answer self.old.sender payload.now result self.new.sender }
+    /// Sets the payload of the F3 cells that the sending end sends from now on.
+    pub fn set_f3(&mut self, payload: &[u8; PAYLOAD_OCTETS])
+        ensures sender { self.new.sender ≡ with_f3 self.old.sender payload.now }
         ensures receiver { self.new.receiver ≡ self.old.receiver }
     {
         line_theorem_holds();
-        self.sender.set_f3(payload)
+        let Ok(()) = self.sender.set_f3(payload) else {
+            unreachable!()
+        };
     }
 
-    /// Writes the 53 octets of the sending end's next cell, and answers its kind. Refuses a place not of 53 octets.
-    pub fn send<S: Source>(&mut self, source: &mut S, place: &mut [u8]) -> Result<Kind, Refusal>
-        ensures answer { SendAnswer self.old.sender (S.Source.waiting source.old) place.old result self.new.sender (S.Source.waiting source.new) place.new }
-        ensures source { SourceAnswer result source.old source.new }
+    /// The kind of the sending end's next cell, and its 53 octets.
+    pub fn send<S: Source>(&mut self, source: &mut S) -> (Kind, [u8; LINE_OCTETS])
+        ensures sends { Sends self.old.sender (S.Source.waiting source.old) result.0 result.1 self.new.sender (S.Source.waiting source.new) }
+        ensures source { NotAsked result.0 source.old source.new }
         ensures receiver { self.new.receiver ≡ self.old.receiver }
     {
         line_theorem_holds();
-        self.sender.send(source, place)
+        self.sender.send_next(source)
     }
 
     /// Octets come at the receiving end. Refuses no octets, and more than 4,096.
@@ -107,9 +103,10 @@ impl Ends {
         self.receiver.reset();
     }
 
-    /// What can be read of the receiving end.
+    /// What can be read of the receiving end. The contract also says that both ends stand: the theorem of the line holds of all calls on them.
     pub fn readings(&self) -> Readings
-        ensures { result ≡ readings_of self.now.receiver }
+        ensures value { result ≡ readings_of self.now.receiver }
+        ensures stand { Stand self.now }
     {
         Readings::from(&self.receiver)
     }

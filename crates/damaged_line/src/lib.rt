@@ -3,7 +3,7 @@
 
 pub mod command;
 pub mod damage;
-pub mod ends;
+mod ends;
 pub mod outcome;
 pub mod tally;
 pub mod trial;

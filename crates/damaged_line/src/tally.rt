@@ -1,11 +1,11 @@
 //! Counts of cells that were sent, and of cells that went up.
-ghost use Rattle.std.specs.Prelude.{◌≡◌, [], option_map};
+ghost use Rattle.std.specs.Prelude.{◌≡◌, [], option_map, Some};
 ghost use Rattle.std.specs.Str.{bytes_eq};
 ghost use Rattle.ring.specs.Ring.{held};
 ghost use Rattle.ports.specs.Cell.{octets};
 ghost use Rattle.ports.specs.CellRing.{ring_cells};
 ghost use Rattle.ports.specs.UserCell.{cell_of};
-ghost use Rattle.damaged_line.specs.Tally.{counted_sent, counted_up, counted_all, added, as_sent};
+ghost use Rattle.damaged_line.specs.Tally.{counted_sent, counted_up, counted_all, added, as_sent, tally_text};
 
 use cell::header::Kind;
 use ports::user_cell::UserCell;
@@ -13,10 +13,10 @@ use ring::ring::Ring;
 use std::fmt;
 use std::num::Saturating;
 
-/// A counter stops at its top.
+/// Counts of cells. A counter stops at its top.
 #[derive(Clone, Copy, Default)]
 pub struct Tally {
-    // cells sent, of each kind
+    /// cells sent, of each kind
     pub user: Saturating<u64>,
     pub f3: Saturating<u64>,
     /// cells that went up as one was sent just before
@@ -26,8 +26,8 @@ pub struct Tally {
 }
 
 impl Tally {
-    /// Counts a cell that was sent. No idle cell is counted.
-    pub fn count_sent(&mut self, kind: Kind)
+    // Counts a cell that was sent. No idle cell is counted.
+    pub(crate) fn count_sent(&mut self, kind: Kind)
         ensures { self.new ≡ counted_sent kind self.old }
     {
         match kind {
@@ -37,8 +37,8 @@ impl Tally {
         }
     }
 
-    /// Takes all cells out of the ring in which they went up, and counts them beside the user cell that was sent, if one was.
-    pub fn count_up(&mut self, cells: &mut Ring<'_, UserCell>, sent: Option<UserCell>)
+    // Takes all cells out of the ring in which they went up, and counts them beside the user cell that was sent, if one was.
+    pub(crate) fn count_up(&mut self, cells: &mut Ring<'_, UserCell>, sent: Option<UserCell>)
         ensures counted { self.new ≡ counted_all (option_map cell_of sent) (ring_cells cells.old) self.old }
         ensures empty { held cells.new ≡ [] }
     {
@@ -85,6 +85,8 @@ fn same(one: &[u8], other: &[u8]) -> bool
 }
 
 impl fmt::Display for Tally {
+    ghost output = { λ t. Some (tally_text t) };
+
     fn fmt<W: fmt::Write>(&self, f: &mut fmt::Formatter<W>) -> fmt::Result {
         let Tally {
             user,

@@ -44,7 +44,7 @@ fn carry_out(
     // events of one command behind these are lost, and counted
     let mut places = [EventRecord::default(); MOST_PLACES];
     let mut events = Ring::new(&mut places);
-    let outcome = trial.carry_out(command, &mut events)?;
+    let outcome = trial.carry_out(command, &mut events);
     if let Outcome::Went(counts) = outcome {
         total.add(counts);
     }

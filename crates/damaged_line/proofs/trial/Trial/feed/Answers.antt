@@ -7,9 +7,9 @@ returns c = record {
   up = c.feed.new.sink;
   empty = c.new-cells.ensures.empty;
   places = c.new-cells.ensures.places;
-  taken = c.in_ok-feed.field-0;
-  feeds = c.in_ok-feed.ensures.answer;
+  taken = c.in-Ok.field-0;
+  feeds = c.in-Ok.ensures.answer;
   counted = search rules;
-  sender = c.in_ok-feed.ensures.sender;
+  sender = c.in-Ok.ensures.sender;
   number = refl;
 }

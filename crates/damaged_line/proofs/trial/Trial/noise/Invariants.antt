@@ -1,5 +1,5 @@
 -- So many octets came as the loop has gone round.
-use Rattle.damaged_line.specs.Outcome.{Noised}
+use Rattle.damaged_line.specs.Trial.{Noised}
 use Rattle.damaged_line.proofs.trial.Trial.noise.Given as goal
 
 abbrev pub invariant-loop : goal.invariant-loop

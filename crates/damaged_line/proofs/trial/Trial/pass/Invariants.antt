@@ -1,5 +1,5 @@
 -- So many cells were sent as the loop has gone round.
-use Rattle.damaged_line.specs.Outcome.{Passed}
+use Rattle.damaged_line.specs.Trial.{Passed}
 use Rattle.damaged_line.proofs.trial.Trial.pass.Given as goal
 
 abbrev pub invariant-loop : goal.invariant-loop

@@ -3,3 +3,4 @@ pub mod Arguments
 pub mod Output
 pub mod Line
 pub mod Passing
+pub mod Summary

@@ -1,14 +1,14 @@
--- What came in on the line. Each counter stops at its top.
+-- What came in on the line. Each counter stops at its top, 2^64 - 1.
 --
 --   none                nothing came yet
---   raised n by         the counter n, so much up, if it does not stop at its top, 2^64 - 1
 --   counted n k t       the tally t with n octets and k cells more
 --   counted_feed n r t  the tally t after a feed of n octets with the answer r: a refused feed counts for nothing
 --   Fed os n l cells events l' cells' events'
 --                       the octets os were fed to the receiving end of the line l, which handed n cells up to the ring of cells and put its
 --                       events into the ring of events
 --   summary_of l        what came in on the line l, and how its receiving end stands
-use Rattle.std.specs.Prelude.{◌≡◌, ℕ, ◌+◌, ◌-◌, ◌^◌, min, List, length, Ok, Err, Result}
+use Rattle.std.specs.Prelude.{◌≡◌, ℕ, ◌+◌, List, length, Ok, Err, Result}
+use Rattle.std.specs.Io.Iter.{u64_saturate}
 use Rattle.cell.specs.declared.refusal.Refusal.{Refusal}
 use Rattle.ring.specs.declared.ring.Ring.{Ring}
 use Rattle.ports.specs.CellRing.{ring_state}
@@ -23,11 +23,8 @@ use Rattle.incoming_line.specs.declared.summary.Summary.{Summary}
 abbrev pub none : Tally
 none = record { octets = 0; cells = 0 }
 
-abbrev pub raised : ℕ → ℕ → ℕ
-raised n by = min (n + by) (2 ^ 64 - 1)
-
 abbrev pub counted : ℕ → ℕ → Tally → Tally
-counted n k t = record { octets = raised t.octets n; cells = raised t.cells k }
+counted n k t = record { octets = u64_saturate (t.octets + n); cells = u64_saturate (t.cells + k) }
 
 abbrev pub counted_feed : ℕ → Result ℕ Refusal → Tally → Tally
 counted_feed n (Ok k) t = counted n k t

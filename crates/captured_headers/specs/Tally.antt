@@ -6,6 +6,7 @@
 --   headers_in t        headers of any finding
 --   tally_text t        what is printed of the tally t, as octets of text
 use Rattle.std.specs.Prelude.{ℕ, ◌+◌, ◌-◌, ◌^◌, min, List, ◌++◌, Some, None, Ok, Err, codes, decimal}
+use Rattle.std.specs.Io.Iter.{u64_saturate}
 use Rattle.std.specs.declared.num.Saturating.{Saturating}
 use Rattle.captured_headers.specs.Remark.{Remark}
 use Rattle.captured_headers.specs.declared.finding.Finding.{Finding}
@@ -13,7 +14,7 @@ use Rattle.captured_headers.specs.declared.finding.Finding.TheVariants.{Clean, O
 use Rattle.captured_headers.specs.declared.tally.Tally.{Tally}
 
 abbrev pub raised : Saturating ℕ → Saturating ℕ
-raised n = record { 0 = min (n.0 + 1) (2 ^ 64 - 1) }
+raised n = record { 0 = u64_saturate (n.0 + 1) }
 
 abbrev pub counted_header : Finding → Tally → Tally
 counted_header Clean t = record t { clean = raised t.clean }

@@ -8,7 +8,8 @@
 --   counted_all sent cs t  the tally t with all of the cells cs, which went up beside the cell that was sent, if one was
 --   added t u              both counts together
 --   tally_text t           what is printed of the tally t, as octets of text
-use Rattle.std.specs.Prelude.{ℕ, ◌+◌, ◌-◌, ◌^◌, min, Bool, true, false, List, [], ◌∷◌, ◌++◌, Some, None, Option, codes, decimal}
+use Rattle.std.specs.Prelude.{ℕ, ◌+◌, Bool, true, false, List, [], ◌∷◌, ◌++◌, Some, None, Option, codes, decimal}
+use Rattle.std.specs.Io.Iter.{u64_saturate}
 use Rattle.std.specs.Str.{bytes_eq}
 use Rattle.std.specs.declared.num.Saturating.{Saturating}
 use Rattle.cell.specs.declared.header.Kind.{Kind}
@@ -17,7 +18,7 @@ use Rattle.ports.specs.Cell.{Cell, octets}
 use Rattle.damaged_line.specs.declared.tally.Tally.{Tally}
 
 abbrev pub raised : Saturating ℕ → ℕ → Saturating ℕ
-raised n by = record { 0 = min (n.0 + by) (2 ^ 64 - 1) }
+raised n by = record { 0 = u64_saturate (n.0 + by) }
 
 abbrev pub none : Tally
 none = record { user = record { 0 = 0 }; f3 = record { 0 = 0 }; as_sent = record { 0 = 0 }; changed = record { 0 = 0 } }

@@ -3,3 +3,5 @@ pub mod Runs
 pub mod Octets
 pub mod Events
 pub mod Unasked
+pub mod Fewness
+pub mod Laws

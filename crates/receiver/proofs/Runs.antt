@@ -11,7 +11,7 @@ use Rattle.receiver.specs.declared.book.Book.{Book}
 use Rattle.receiver.specs.declared.event.EventRecord.{EventRecord}
 use Rattle.receiver.specs.declared.receiver.Receiver.{Receiver}
 use Rattle.receiver.specs.Book.{Log, log_of, bit_counted, brought, noted, log_run}
-use Rattle.receiver.specs.Feed.{Events, events_of, log, Works, Feeds, FeedLaws}
+use Rattle.receiver.specs.Feed.{Events, events_of, log, Works, Feeds}
 use Rattle.receiver.specs.Handing.{Reply, Moment, bits, Handed, Along, taken, taken_in}
 use Rattle.receiver.specs.Run.{octet_bits, bits_of, step, after, cell_in, user_cell, kept_cell}
 
@@ -116,6 +116,3 @@ feeds os i r r' k k' q q' n some few all h =
     positive : (n : ℕ) → nat_eq n 0 ≡ false → 0 < n
     positive zero z = absurd (false≢true (sym z))
     positive (suc n) z = omega arith
-
-pub feed_laws : FeedLaws
-feed_laws = record { tracked = after-append; joined = λ r r' r'' k k' k'' q q' q'' bs cs n m a b. works_then a b; bits = bits_of-append }

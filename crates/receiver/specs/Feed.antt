@@ -11,8 +11,9 @@
 --   FeedWhy os e    why a feed of the octets os is refused with e
 --   FeedAnswer      what a feed answers and leaves, also where it is refused
 --   Untouched       a refused call leaves the very same sink and ring
---   FeedLaws        runs of bits join: on a receiving end while the same sink and ring are lent on, and on its tracker whatever is lent
-use Rattle.std.specs.Prelude.{◌≡◌, ℕ, ◌+◌, ◌<◌, ◌≤◌, Bool, List, ◌++◌, length, Result, MatchResult, OnErr}
+--   FeedLaws        runs of bits join: on a receiving end while the same sink and ring are lent on, and on its tracker whatever is lent;
+--                   and no feed overruns room for 78 cells and 1,024 events
+use Rattle.std.specs.Prelude.{◌≡◌, ℕ, ◌+◌, ◌*◌, ◌<◌, ◌≤◌, Bool, List, [], ◌++◌, length, Result, MatchResult, OnErr}
 use Rattle.cell.specs.Refusal.{number_of}
 use Rattle.cell.specs.declared.refusal.Refusal.{Refusal}
 use Rattle.cell.specs.declared.refusal.Refusal.TheVariants.{NoOctets, TooManyOctets}
@@ -25,7 +26,7 @@ use Rattle.receiver.specs.declared.event.EventRecord.{EventRecord}
 use Rattle.receiver.specs.declared.receiver.Receiver.{Receiver}
 use Rattle.receiver.specs.Book.{Log, blank, log_run}
 use Rattle.receiver.specs.Handing.{Moment, bits, Along, taken_in}
-use Rattle.receiver.specs.Run.{bits_of, after}
+use Rattle.receiver.specs.Run.{bits_of, after, offers}
 
 pub record Events : Type 0 where
   pub held : List EventRecord
@@ -81,3 +82,15 @@ pub record FeedLaws : Type 0 where
       → Works r k q bs n r' k' q' → Works r' k' q' cs m r'' k'' q'' → Works r k q (bs ++ cs) (n + m) r'' k'' q''
   -- the bits of octets in a row are those of the first and then those of the others
   pub bits : (xs ys : List ℕ) → bits_of (xs ++ ys) ≡ bits_of xs ++ bits_of ys
+  -- so few user cells end in octets that a feed hands up at most 78, whatever the sink answers: a cell has 424 bits, and of the first all but the
+  -- last may have come before
+  pub few : (s : Tracker) (os : List ℕ) → 424 * offers s (bits_of os) ≤ 8 * length os + 423
+  -- and the sink takes no more than those
+  pub taken : (os : List ℕ) (r r' : Receiver) (k k' : SinkState) (q q' : Events) (n : ℕ)
+      → Feeds os r k q n r' k' q' → n ≤ offers r.tracker (bits_of os)
+  -- a feed loses no event to a ring that is empty and has 1,024 places
+  pub no_event_lost : (os : List ℕ) (r r' : Receiver) (k k' : SinkState) (q q' : Events) (n : ℕ)
+      → Feeds os r k q n r' k' q' → q.held ≡ [] → q.places ≡ 1024 → r'.book.counters.lost ≡ r.book.counters.lost
+  -- a feed finds no sink full that has space for 78 cells of each connection
+  pub never_full : (os : List ℕ) (r r' : Receiver) (k k' : SinkState) (q q' : Events) (n : ℕ)
+      → Feeds os r k q n r' k' q' → ((c : ℕ) → 78 ≤ k.space c) → r'.book.counters.full ≡ r.book.counters.full

@@ -8,7 +8,9 @@
 --   kept_cell s b  the kept cell whose last bit is b, descrambled, if it is one (cell_in: by what the bit brings)
 --   user_cell o    the user cell among a cell, if it is one: by its header alone (user_by: by its kind)
 --   offered s b    the user cell that is handed up with the bit b, if one is
-use Rattle.std.specs.Prelude.{ℕ, ◌-◌, ◌/◌, ◌%◌, ◌^◌, Bool, List, [], ◌∷◌, ◌++◌, Some, None, Option, ◌==◌}
+--   how_many o     one, where there is a cell o, and else none
+--   offers s bs    how many user cells are handed up over the bits bs, from the tracker s on
+use Rattle.std.specs.Prelude.{ℕ, ◌+◌, ◌-◌, ◌/◌, ◌%◌, ◌^◌, Bool, List, [], ◌∷◌, ◌++◌, Some, None, Option, ◌==◌}
 use Rattle.cell.specs.Header.{kind_of}
 use Rattle.cell.specs.declared.header.Kind.{Kind}
 use Rattle.cell.specs.declared.header.Kind.TheVariants.{Idle, F3, User}
@@ -56,3 +58,11 @@ user_cell (Some c) = user_by (kind_of c.header) c
 
 abbrev pub offered : Tracker → Bool → Option Cell
 offered s b = user_cell (kept_cell s b)
+
+abbrev pub how_many : Option Cell → ℕ
+how_many None = 0
+how_many (Some c) = 1
+
+abbrev pub offers : Tracker → List Bool → ℕ
+offers s [] = 0
+offers s (b ∷ bs) = how_many (offered s b) + offers (step s b) bs

@@ -155,7 +155,7 @@ fn cells_taken(reply: Option<Result<(), SinkCause>>) -> u32
 }
 
 /// What holds of runs of bits: this call does nothing, and its contract is the proof of that.
-#[tactic(auto, using(crate::proofs::Runs::feed_laws))]
+#[tactic(auto, using(crate::proofs::Laws::feed_laws))]
 pub fn feed_laws_hold()
     ensures { FeedLaws }
 {}

@@ -1,16 +1,17 @@
 -- What comes in on the line, and all that it brings, written out. A line is l before and l' after, and what the two writers are known to hold,
 -- for cells w and w', for events v and v'.
 --
---   Passed a os l w v l' w' v'        the octets os were fed to the line; all cells handed up were written to the one writer, and all events listed to
---                                     the other, as the arguments a ask for
+--   Passed a os l w v l' w' v'        the octets os were fed to the line, with places for all that they bring; all cells handed up were written to the
+--                                     one writer, and all events listed to the other, as the arguments a ask for
 --   PassAnswer a os l w v r l' w' v'  what the passing on of the octets os answers: refused, they leave line and writers; a writer that fails may have
 --                                     taken a part
-use Rattle.std.specs.Prelude.{◌≡◌, ℕ, List, [], Ok, Err, Option, Result}
+use Rattle.std.specs.Prelude.{◌≡◌, ℕ, ◌<◌, List, [], length, Ok, Err, Option, Result}
 use Rattle.std.specs.Io.KnownBytes.{Appends}
 use Rattle.ring.specs.declared.ring.Ring.{Ring}
 use Rattle.ring.specs.Ring.{held, places}
 use Rattle.ports.specs.declared.user_cell.UserCell.{UserCell}
 use Rattle.receiver.specs.Feed.{FeedWhy}
+use Rattle.receiver.specs.Run.{bits_of, offers}
 use Rattle.receiver.specs.declared.event.EventRecord.{EventRecord}
 use Rattle.incoming_line.specs.Line.{Fed}
 use Rattle.incoming_line.specs.Output.{cells_written, events_listed}
@@ -29,6 +30,11 @@ pub record Passed (a : Arguments) (os : List ℕ) (l : Line) (w v : Option (List
   pub places : (places no_cells ≡ 78) × (places no_events ≡ 1024)
   pub taken : ℕ
   pub fed : Fed os taken l no_cells no_events l' cells events
+  -- all that the octets bring had a place: each user cell handed up went in, and no event was lost. The counters alone would say less, since they stop
+  pub all_taken : taken ≡ offers l.receiver.tracker (bits_of os)
+  pub free : length (held events) < 1024
+  pub none_full : l'.receiver.book.counters.full ≡ l.receiver.book.counters.full
+  pub none_lost : l'.receiver.book.counters.lost ≡ l.receiver.book.counters.lost
   pub written : Appends w w' (cells_written a.payloads (held cells))
   pub listed : Appends v v' (events_listed a.events (held events))
 

@@ -9,7 +9,7 @@ use crate::output::{list_events, write_cells};
 use cell::refusal::Refusal;
 use ports::user_cell::UserCell;
 use receiver::event::EventRecord;
-use receiver::feeding::MOST_CELLS;
+use receiver::feeding::{MOST_CELLS, feed_laws_hold};
 use ring::ring::{MOST_PLACES, Ring};
 use std::error::Error;
 use std::io::Write;
@@ -52,7 +52,8 @@ impl fmt::Display for PassError {
 impl Error for PassError {}
 
 impl Line {
-    /// Feeds octets, and writes out all that they bring: the cells to one writer, and the events, if they are asked for, to the other.
+    /// Feeds octets, and writes out all that they bring: the cells to one writer, and the events, if they are asked for, to the other. No cell and
+    /// no event is lost for want of places.
     /// Refuses no octets, and more than 4,096, and then nothing changes.
     pub fn pass_on<W: Write, L: Write>(
         &mut self,
@@ -63,7 +64,8 @@ impl Line {
     ) -> Result<(), PassError>
         ensures { PassAnswer arguments octets.now self.old (W.contents out.old) (L.contents listing.old) result self.new (W.contents out.new) (L.contents listing.new) }
     {
-        // a feed ends no more cells than these, and brings at most 546 events: nothing is lost
+        // a feed loses nothing to empty rings of so many places
+        feed_laws_hold();
         let mut cell_places = [UserCell::blank(); MOST_CELLS];
         let mut event_places = [EventRecord::default(); MOST_PLACES];
         let mut cells = Ring::new(&mut cell_places);

@@ -2,12 +2,12 @@
 -- all that is brought costs no more than the bits and the first credit.
 use Rattle.std.proofs.Common.{◌≡◌, ℕ, ◌+◌, ◌-◌, ◌*◌, ◌<◌, ◌≤◌, Bool, true, false, cond, nat_lt, ltb, List, [], ◌∷◌, ◌++◌, length, None, Some, Ok, Err, Option, Result, option_map, refl, sym, ap, ◌∙◌, subst, arith, lt-ltb}
 use Rattle.std.specs.Bool.{⊤}
-use Rattle.std.proofs.lemmas.Bool.{ltb-true, ltb-false}
+use Rattle.std.proofs.lemmas.Bool.{false≢true, ltb-true, ltb-false}
 use Rattle.std.proofs.lemmas.List.{length-append}
 use Rattle.cell.specs.declared.header.Header as headers
 use Rattle.cell.specs.declared.header.Kind.{Kind}
 use Rattle.cell.specs.declared.header.Kind.TheVariants.{Idle, F3, User}
-use Rattle.cell.specs.Header.{connection_of, kind_of}
+use Rattle.cell.specs.Header.{connection_of, kind_of, reserved}
 use Rattle.ports.specs.Cell.{Cell}
 use Rattle.ports.specs.Sink.{SinkState}
 use Rattle.tracker.specs.Events.{events_on, hunt_ends}
@@ -28,7 +28,7 @@ use Rattle.tracker.specs.declared.tracker.Moment.TheVariants as moment
 use Rattle.tracker.specs.declared.tracker.Tracker.{Tracker}
 use Rattle.receiver.specs.Book.{Log, booked, bit_counted, brought, cell_noted, header_noted, log_run, lost, marked, noted, posted, posted_if, replied}
 use Rattle.receiver.specs.Event.{record_of}
-use Rattle.receiver.specs.Feed.{Events, Feeds, log}
+use Rattle.receiver.specs.Feed.{Events, Feeds, Room, log}
 use Rattle.receiver.specs.Handing.{Along, Handed, Moment, Reply, bits, taken, taken_in}
 use Rattle.receiver.specs.Run.{bits_of, cell_in, how_many, kept_cell, octet_bits, offered, offers, step, user_by, user_cell}
 use Rattle.receiver.specs.declared.event.Event.{Event}
@@ -162,13 +162,6 @@ taken_offers (m ∷ ms) s k k' a =
     let more = taken_offers ms (step s m.bit) m.sink' k' a.2 in
     omega arith
 
-pub taken_few : (os : List ℕ) (r r' : Receiver) (k k' : SinkState) (q q' : Events) (n : ℕ) → Feeds os r k q n r' k' q' → n ≤ offers r.tracker (bits_of os)
-taken_few os r r' k k' q q' n f =
-    let w = f.works in
-    let few = taken_offers w.moments r.tracker k k' w.along in
-    let same : offers r.tracker (bits w.moments) ≡ offers r.tracker (bits_of os) = ap (offers r.tracker) w.fed in
-    omega (arith, w.answer)
-
 -- ---- events: each costs 60
 
 -- from the log g to the log g' no event was lost, and those that came cost n at the most
@@ -236,20 +229,6 @@ most_for_events Hunt = omega arith
 most_for_events (Payload o b k l) = omega arith
 most_for_events (Header j l) = omega arith
 
-pub no_event_lost : (os : List ℕ) (r r' : Receiver) (k k' : SinkState) (q q' : Events) (n : ℕ)
-    → Feeds os r k q n r' k' q' → q.held ≡ [] → q.places ≡ 1024 → r'.book.counters.lost ≡ r.book.counters.lost
-no_event_lost os r r' k k' q q' n f empty places =
-    let w = f.works in
-    let paid : costs 180 60 r.tracker (bits_of os) ≤ credit 240 440 420 r.tracker.control.place + length (bits_of os)
-    = paid_run 180 60 240 440 420 for_events (bits_of os) r.tracker in
-    let same : costs 180 60 r.tracker (bits w.moments) ≡ costs 180 60 r.tracker (bits_of os) = ap (costs 180 60 r.tracker) w.fed in
-    let first = most_for_events r.tracker.control.place in
-    let long = bits_long os in
-    let none : length q.held ≡ 0 = ap length empty in
-    let kept : Kept (costs 180 60 r.tracker (bits w.moments)) (log r q) (log_run r.tracker (log r q) w.moments)
-    = run_kept w.moments r.tracker (log r q) (omega (arith, f.few)) in
-    ap (λ (g : Log). g.book.counters.lost) w.written ∙ kept.lost
-
 -- ---- no sink is full
 
 -- a sink's space falls by what is handed up at the most
@@ -308,11 +287,77 @@ run_full (m ∷ ms) s k k' g a room =
     (space_left (offered s m.bit) m.sink m.sink' m.reply (offers (step s m.bit) (bits ms)) a.1 here)
     ∙ bit_full (bit_brings s m.bit) (bit_step s m.bit).payload m.reply m.sink m.sink' (booked (bit_counted g.book) g) a.1 some
 
-pub never_full : (os : List ℕ) (r r' : Receiver) (k k' : SinkState) (q q' : Events) (n : ℕ)
-    → Feeds os r k q n r' k' q' → ((c : ℕ) → 78 ≤ k.space c) → r'.book.counters.full ≡ r.book.counters.full
-never_full os r r' k k' q q' n f room =
-    let w = f.works in
-    let few : 424 * offers r.tracker (bits_of os) ≤ 8 * length os + 423 = few_offers r.tracker os in
-    let same : offers r.tracker (bits w.moments) ≡ offers r.tracker (bits_of os) = ap (offers r.tracker) w.fed in
-    ap (λ (g : Log). g.book.counters.full) w.written
-    ∙ run_full w.moments r.tracker k k' (log r q) w.along (λ c. omega (arith, room c, f.few))
+-- ---- a sink that serves all user headers takes each cell
+
+abbrev ServesAll : SinkState → Type 0
+ServesAll k = (h : ℕ) → reserved h ≡ false → k.serves h ≡ true
+
+serves_on : (o : Option Cell) (r : Reply) (k k' : SinkState) → Handed o k r k' → ServesAll k → ServesAll k'
+serves_on None r k k' h all = subst ServesAll (sym h.1) all
+serves_on (Some x) None k k' h all = absurd h
+serves_on (Some x) (Some (Ok y)) k k' h all = λ c user. h.serving c ∙ all c user
+serves_on (Some x) (Some (Err sink.Full)) k k' h all = subst ServesAll (sym h.1) all
+serves_on (Some x) (Some (Err sink.NotServed)) k k' h all = subst ServesAll (sym h.1) all
+
+takes : (o : Option Cell) (r : Reply) (k k' : SinkState) → Handed o k r k' → ((c : ℕ) → how_many o ≤ k.space c) → ServesAll k → taken r ≡ how_many o
+takes None r k k' h room all = ap taken h.0
+takes (Some x) None k k' h room all = absurd h
+takes (Some x) (Some (Ok y)) k k' h room all = refl
+takes (Some x) (Some (Err sink.Full)) k k' h room all = absurd (omega (arith, room (connection_of x.header), h.0.4))
+takes (Some x) (Some (Err sink.NotServed)) k k' h room all = absurd (false≢true (sym h.0.3 ∙ all x.header h.0.2))
+
+run_takes : (ms : List Moment) (s : Tracker) (k k' : SinkState) → Along s k ms k' → ((c : ℕ) → offers s (bits ms) ≤ k.space c) → ServesAll k
+    → taken_in ms ≡ offers s (bits ms)
+run_takes [] s k k' a room all = refl
+run_takes (m ∷ ms) s k k' a room all =
+    let here : (c : ℕ) → how_many (offered s m.bit) + offers (step s m.bit) (bits ms) ≤ m.sink.space c
+    = subst (λ (x : SinkState). (c : ℕ) → offers s (bits (m ∷ ms)) ≤ x.space c) (sym a.0) room in
+    let some : (c : ℕ) → how_many (offered s m.bit) ≤ m.sink.space c = λ c. omega (arith, here c) in
+    let served : ServesAll m.sink = subst ServesAll (sym a.0) all in
+    let took : taken m.reply ≡ how_many (offered s m.bit) = takes (offered s m.bit) m.reply m.sink m.sink' a.1 some served in
+    let more : taken_in ms ≡ offers (step s m.bit) (bits ms)
+    = run_takes ms (step s m.bit) m.sink' k' a.2
+    (space_left (offered s m.bit) m.sink m.sink' m.reply (offers (step s m.bit) (bits ms)) a.1 here)
+    (serves_on (offered s m.bit) m.reply m.sink m.sink' a.1 served) in
+    omega arith
+
+-- ---- a feed
+
+module _ (os : List ℕ) (r r' : Receiver) (k k' : SinkState) (q q' : Events) (n : ℕ) (f : Feeds os r k q n r' k' q') where
+  same_offers : offers r.tracker (bits f.works.moments) ≡ offers r.tracker (bits_of os)
+  same_offers = ap (offers r.tracker) f.works.fed
+
+  offers_few : ((c : ℕ) → 78 ≤ k.space c) → (c : ℕ) → offers r.tracker (bits f.works.moments) ≤ k.space c
+  offers_few room c =
+      let few : 424 * offers r.tracker (bits_of os) ≤ 8 * length os + 423 = few_offers r.tracker os in
+      omega (arith, room c, f.few, same_offers)
+
+  events_cost : costs 180 60 r.tracker (bits f.works.moments) ≤ 33208
+  events_cost =
+      let paid : costs 180 60 r.tracker (bits_of os) ≤ credit 240 440 420 r.tracker.control.place + length (bits_of os)
+      = paid_run 180 60 240 440 420 for_events (bits_of os) r.tracker in
+      let same : costs 180 60 r.tracker (bits f.works.moments) ≡ costs 180 60 r.tracker (bits_of os) = ap (costs 180 60 r.tracker) f.works.fed in
+      let first = most_for_events r.tracker.control.place in
+      let long = bits_long os in
+      omega (arith, f.few)
+
+  feed_kept : q.held ≡ [] → q.places ≡ 1024 → Kept 33208 (log r q) (log r' q')
+  feed_kept empty places =
+      let none : length q.held ≡ 0 = ap length empty in
+      let cost = events_cost in
+      let kept : Kept (costs 180 60 r.tracker (bits f.works.moments)) (log r q) (log_run r.tracker (log r q) f.works.moments)
+      = run_kept f.works.moments r.tracker (log r q) (omega arith) in
+      subst (λ (g : Log). Kept 33208 (log r q) g) (sym f.works.written) (record { places = kept.places; lost = kept.lost; few = omega arith })
+
+  free_left : q.held ≡ [] → q.places ≡ 1024 → length q'.held < 1024
+  free_left empty places = let none : length q.held ≡ 0 = ap length empty in let kept = feed_kept empty places in omega arith
+
+  pub feed_room : Room os r k q n r' q'
+  feed_room = record {
+    taken = (let few = taken_offers f.works.moments r.tracker k k' f.works.along in omega (arith, f.works.answer, same_offers));
+    free = free_left;
+    none_lost = λ empty places. (feed_kept empty places).lost;
+    none_full = λ room. ap (λ (g : Log). g.book.counters.full) f.works.written
+        ∙ run_full f.works.moments r.tracker k k' (log r q) f.works.along (offers_few room);
+    all_taken = λ room all. f.works.answer ∙ run_takes f.works.moments r.tracker k k' f.works.along (offers_few room) all ∙ same_offers;
+  }

@@ -11,9 +11,11 @@
 --   FeedWhy os e    why a feed of the octets os is refused with e
 --   FeedAnswer      what a feed answers and leaves, also where it is refused
 --   Untouched       a refused call leaves the very same sink and ring
+--   Room            the accepted feed of the octets os, of which the sink k took n cells, overran no room for 78 cells and 1,024 events
 --   FeedLaws        runs of bits join: on a receiving end while the same sink and ring are lent on, and on its tracker whatever is lent;
 --                   and no feed overruns room for 78 cells and 1,024 events
-use Rattle.std.specs.Prelude.{◌≡◌, ℕ, ◌+◌, ◌*◌, ◌<◌, ◌≤◌, Bool, List, [], ◌++◌, length, Result, MatchResult, OnErr}
+use Rattle.std.specs.Prelude.{◌≡◌, ℕ, ◌+◌, ◌*◌, ◌<◌, ◌≤◌, Bool, true, false, List, [], ◌++◌, length, Result, MatchResult, OnErr}
+use Rattle.cell.specs.Header.{reserved}
 use Rattle.cell.specs.Refusal.{number_of}
 use Rattle.cell.specs.declared.refusal.Refusal.{Refusal}
 use Rattle.cell.specs.declared.refusal.Refusal.TheVariants.{NoOctets, TooManyOctets}
@@ -73,6 +75,16 @@ Untouched answer sink sink' ring ring' = OnErr answer ((sink' ≡ sink) × (ring
 
 -- ---- what holds of runs
 
+-- the counters alone would say less, since they stop
+pub record Room (os : List ℕ) (r : Receiver) (k : SinkState) (q : Events) (n : ℕ) (r' : Receiver) (q' : Events) : Type 0 where
+  pub taken : n ≤ offers r.tracker (bits_of os)
+  -- no event is lost to a ring that was empty and has 1,024 places: some are still free then
+  pub free : q.held ≡ [] → q.places ≡ 1024 → length q'.held < 1024
+  pub none_lost : q.held ≡ [] → q.places ≡ 1024 → r'.book.counters.lost ≡ r.book.counters.lost
+  -- a sink that has space for 78 cells of each connection is never full, and takes each cell if it serves all user headers
+  pub none_full : ((c : ℕ) → 78 ≤ k.space c) → r'.book.counters.full ≡ r.book.counters.full
+  pub all_taken : ((c : ℕ) → 78 ≤ k.space c) → ((h : ℕ) → reserved h ≡ false → k.serves h ≡ true) → n ≡ offers r.tracker (bits_of os)
+
 pub record FeedLaws : Type 0 where
   -- the tracker after one run and then another is that after one run over both, whatever is lent to either: how the line's octets are cut
   -- into feeds makes no difference to hunting, phase and mending, nor to which cells are offered
@@ -82,15 +94,7 @@ pub record FeedLaws : Type 0 where
       → Works r k q bs n r' k' q' → Works r' k' q' cs m r'' k'' q'' → Works r k q (bs ++ cs) (n + m) r'' k'' q''
   -- the bits of octets in a row are those of the first and then those of the others
   pub bits : (xs ys : List ℕ) → bits_of (xs ++ ys) ≡ bits_of xs ++ bits_of ys
-  -- so few user cells end in octets that a feed hands up at most 78, whatever the sink answers: a cell has 424 bits, and of the first all but the
-  -- last may have come before
+  -- so few user cells end in octets that a feed hands up at most 78, whatever the sink answers: a cell has 424 bits, of which in the first cell all
+  -- but the last may have come before
   pub few : (s : Tracker) (os : List ℕ) → 424 * offers s (bits_of os) ≤ 8 * length os + 423
-  -- and the sink takes no more than those
-  pub taken : (os : List ℕ) (r r' : Receiver) (k k' : SinkState) (q q' : Events) (n : ℕ)
-      → Feeds os r k q n r' k' q' → n ≤ offers r.tracker (bits_of os)
-  -- a feed loses no event to a ring that is empty and has 1,024 places
-  pub no_event_lost : (os : List ℕ) (r r' : Receiver) (k k' : SinkState) (q q' : Events) (n : ℕ)
-      → Feeds os r k q n r' k' q' → q.held ≡ [] → q.places ≡ 1024 → r'.book.counters.lost ≡ r.book.counters.lost
-  -- a feed finds no sink full that has space for 78 cells of each connection
-  pub never_full : (os : List ℕ) (r r' : Receiver) (k k' : SinkState) (q q' : Events) (n : ℕ)
-      → Feeds os r k q n r' k' q' → ((c : ℕ) → 78 ≤ k.space c) → r'.book.counters.full ≡ r.book.counters.full
+  pub room : (os : List ℕ) (r r' : Receiver) (k k' : SinkState) (q q' : Events) (n : ℕ) → Feeds os r k q n r' k' q' → Room os r k q n r' q'

@@ -1,4 +1,4 @@
--- Counts over a capture. Each counter stops at its top.
+-- Counts over a capture. Each counter stops at its top, 2^64 - 1.
 --
 --   raised n            the counter n, one up, if it is not at its top
 --   counted_header f t  the tally t with one header more, found to be f
@@ -27,7 +27,7 @@ counted (Ok (Some r)) t = counted_header r.finding t
 counted (Err c) t = record t { malformed = raised t.malformed }
 
 abbrev pub headers_in : Tally → ℕ
-headers_in t = min (t.clean.0 + t.one_wrong_bit.0 + t.past_mending.0) (2 ^ 64 - 1)
+headers_in t = u64_saturate (t.clean.0 + t.one_wrong_bit.0 + t.past_mending.0)
 
 abbrev pub tally_text : Tally → List ℕ
 tally_text t =

@@ -7,6 +7,7 @@ use cell::line_header::LineHeader;
 use cell::verdict::Verdict;
 use std::fmt;
 
+/// What a captured header tells of its bits.
 #[derive(Clone, Copy, Debug, PartialEq, Eq)]
 pub enum Finding {
     /// the header came with its own check octet

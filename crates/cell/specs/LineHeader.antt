@@ -8,7 +8,7 @@
 --   Codeword w           the 40 bits w are a header with its own check octet
 --   OneTold x v          where x is a codeword with one of its 40 bits the other way, v names that bit
 --   TwoPast x v          where x is a codeword with two of its bits the other way, v is past mending
---   Restored x i y       where x is a codeword with bit i alone the other way, y is that codeword
+--   Restored x i y       where x is 40 bits with bit i the other way, y is those 40 bits
 use Rattle.std.specs.Prelude.{◌≡◌, ℕ, ◌+◌, ◌*◌, ◌/◌, ◌%◌, ◌^◌, ◌<◌, true, List, [], ◌∷◌, ◌++◌, ◌≢◌, bit_xor, codes}
 use Rattle.std.specs.Fmt.{digit_glyph}
 use Rattle.cell.specs.CheckOctet.{syndrome}

@@ -12,7 +12,7 @@ use Rattle.cell.specs.Sorting.{header_of}
 use Rattle.cell.specs.declared.refusal.Refusal.{Refusal}
 use Rattle.scrambler.specs.Coding.{coded, header_mask, masked, samples, CodeWhy}
 use Rattle.scrambler.specs.Finder.{found}
-use Rattle.scrambler.specs.Generator.{next_phase}
+use Rattle.scrambler.specs.Generator.{next_phase, Running}
 use Rattle.coding_vectors.specs.declared.cases.Case.{Case}
 use Rattle.coding_vectors.specs.declared.cases.Case.TheVariants as cases
 use Rattle.coding_vectors.specs.declared.outcomes.Outcome.{Outcome}
@@ -33,7 +33,7 @@ pub record ComesBack (cell : List ℕ) (p : ℕ) (line : List ℕ) : Type 0 wher
 
 abbrev pub CellOutcome : List ℕ → ℕ → Result Outcome Refusal → Type 0
 CellOutcome cell p (Ok (Line line next same agrees)) =
-    (length cell ≡ 52) × (0 < p) × (p < 2 ^ 31)
+    (length cell ≡ 52) × Running p
     × (line ≡ coded p cell) × (next ≡ next_phase p) × (agrees ≡ header_right line p)
     × Decides same (ComesBack cell p line)
 CellOutcome cell p (Ok (Phase q)) = ⊥

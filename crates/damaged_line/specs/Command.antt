@@ -9,7 +9,7 @@ use Rattle.std.specs.Prelude.{◌≡◌, ℕ, ◌^◌, Bool, true, false, cond, 
 use Rattle.text.specs.Number.{number_of}
 use Rattle.text.specs.Words.{first_word, other_words}
 use Rattle.cell.specs.LineHeader.{octet_text}
-use Rattle.tracker.specs.Display.{hex8}
+use Rattle.scrambler.specs.Generator.{phase_text}
 use Rattle.damaged_line.specs.Damage.{damage_of, damage_text}
 use Rattle.damaged_line.specs.declared.command.Command.{Command}
 use Rattle.damaged_line.specs.declared.command.Command.TheVariants.{Pass, Turn, Noise, Start, F3, Reset}
@@ -41,6 +41,6 @@ abbrev pub command_text : Command → List ℕ
 command_text (Pass n) = codes "pass " ++ decimal n
 command_text (Turn d) = codes "turn" ++ damage_text d
 command_text (Noise n) = codes "noise " ++ decimal n
-command_text (Start p) = codes "start 0x" ++ hex8 p
+command_text (Start p) = codes "start 0x" ++ phase_text p
 command_text (F3 o) = codes "f3 0x" ++ octet_text o
 command_text Reset = codes "reset"

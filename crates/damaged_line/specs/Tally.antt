@@ -1,4 +1,4 @@
--- Counts of cells that were sent, and of cells that went up. Each counter stops at its top.
+-- Counts of cells that were sent, and of cells that went up. Each counter stops at its top, 2^64 - 1.
 --
 --   raised n by            the counter n, so much up, if it does not stop at its top
 --   none                   nothing is counted yet

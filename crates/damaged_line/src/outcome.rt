@@ -9,9 +9,11 @@ use std::fmt;
 /// What came of a command.
 #[derive(Clone, Copy)]
 pub enum Outcome {
-    /// cells were sent, and went up
+    /// what was sent, and what went up
     Went(Tally),
+    /// an end did as it was told
     Accepted,
+    /// an end refused it
     Refused(Refusal),
 }
 

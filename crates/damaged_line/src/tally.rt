@@ -16,8 +16,9 @@ use std::num::Saturating;
 /// Counts of cells. A counter stops at its top.
 #[derive(Clone, Copy, Default)]
 pub struct Tally {
-    /// cells sent, of each kind
+    /// user cells sent
     pub user: Saturating<u64>,
+    /// F3 cells sent
     pub f3: Saturating<u64>,
     /// cells that went up as one was sent just before
     pub as_sent: Saturating<u64>,

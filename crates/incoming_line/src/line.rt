@@ -22,6 +22,7 @@ pub struct Tally {
     pub cells: u64,
 }
 
+/// A line as it comes in: the receiving end, and the counts.
 #[derive(Drop)]
 pub struct Line {
     receiver: Receiver,

@@ -17,6 +17,7 @@ use sender::sender::Sender;
 use std::io;
 use std::io::Write;
 
+/// A line as it goes out: the sending end, and the counts.
 #[derive(Drop)]
 pub struct Line {
     sender: Sender,
@@ -46,7 +47,7 @@ impl Line {
         };
     }
 
-    /// Sends so many cells while no user cell waits, and writes out their octets.
+    /// Sends so many cells while no user cell waits, and writes out their octets. Where a write fails, nothing is said of the line after it.
     #[tactic(auto, using(crate::proofs::Sendings::unused_begun, crate::proofs::Sendings::unused_sent))]
     pub fn send_unused<W: Write>(&mut self, cells: u32, out: &mut W) -> io::Result<()>
         ensures { OnOk result (UnusedSent cells self.old (W.contents out.old) self.new (W.contents out.new)) }
@@ -59,7 +60,7 @@ impl Line {
     }
 
     /// Sends cells until all that carry a block are out, and writes out their octets. At most the first 65,536 octets of the block are
-    /// carried, under its header, and none under a reserved one.
+    /// carried, under its header, and none under a reserved one. Where a write fails, nothing is said of the line after it.
     pub fn send_block<W: Write>(
         &mut self,
         header: Header,
@@ -86,7 +87,7 @@ impl Line {
         Ok(())
     }
 
-    // Sends the next cell, counts it, and writes out its octets. A cell that cannot be written is counted too.
+    // Sends the next cell, counts it, and writes out its octets.
     #[tactic(auto, using(crate::proofs::Sendings::cell_sent))]
     fn send_cell<S: Source, W: Write>(&mut self, source: &mut S, out: &mut W) -> io::Result<()>
         ensures { OnOk result (CellSent self.old (S.Source.waiting source.old) (W.contents out.old) self.new (S.Source.waiting source.new) (W.contents out.new)) }

@@ -10,9 +10,11 @@ use std::fmt;
 pub struct Tally {
     /// octets of the block
     pub octets: u64,
-    /// cells of each kind
+    /// idle cells
     pub idle: u64,
+    /// F3 cells
     pub f3: u64,
+    /// user cells
     pub user: u64,
 }
 

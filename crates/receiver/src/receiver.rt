@@ -48,6 +48,7 @@ impl Receiver {
         self.tracker.state()
     }
 
+    /// What was counted since the receiving end was made, also before resets.
     pub fn counters(&self) -> Counters
         ensures { result ≡ self.now.book.counters }
     {

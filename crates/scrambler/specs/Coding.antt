@@ -24,7 +24,7 @@ pub use Rattle.cell.specs.Header.{header_octets}
 use Rattle.cell.specs.declared.line_header.LineHeader.{LineHeader}
 use Rattle.cell.specs.declared.refusal.Refusal.{Refusal}
 use Rattle.cell.specs.declared.refusal.Refusal.TheVariants.{BadPhase, WrongLength}
-use Rattle.scrambler.specs.Generator.{ahead, ago, octet_ahead}
+use Rattle.scrambler.specs.Generator.{ahead, ago, octet_ahead, Running, NotRunning}
 
 unfoldable pub header_mask : ℕ → ℕ
 header_mask p = ago 32 p * 2 ^ 31 + p % 2 ^ 31
@@ -67,12 +67,12 @@ RightLengths cell place = (length cell ≡ 52) × (length place ≡ 53)
 
 abbrev pub CodeWhy : List ℕ → ℕ → List ℕ → Refusal → Type 0
 CodeWhy cell p place WrongLength = (number_of WrongLength ≡ 4) × (RightLengths cell place → ⊥)
-CodeWhy cell p place BadPhase = (number_of BadPhase ≡ 3) × RightLengths cell place × ((p ≡ 0) ⊎ (2 ^ 31 ≤ p))
+CodeWhy cell p place BadPhase = (number_of BadPhase ≡ 3) × RightLengths cell place × NotRunning p
 CodeWhy cell p place _ = ⊥
 
 pub record Codes (cell : List ℕ) (p : ℕ) (place : List ℕ) (place' : List ℕ) : Type 0 where
   pub lengths : RightLengths cell place
-  pub phase : (0 < p) × (p < 2 ^ 31)
+  pub phase : Running p
   pub written : place' ≡ coded p cell
   pub back : decoded p place' ≡ cell
 

@@ -11,8 +11,11 @@
 --   next_phase p     the phase of the next cell, 424 steps on
 --   before p         the phase of the cell before, 424 steps back
 --   Running p        cells are coded at p: it has 31 bits and is not 0, at which the generator would stand still
+--   NotRunning p     they are not
 --   PhaseAnswer p r  what the test of p answers
-use Rattle.std.specs.Prelude.{◌≡◌, ℕ, zero, suc, ◌+◌, ◌-◌, ◌*◌, ◌/◌, ◌%◌, ◌^◌, ◌<◌, ◌≤◌, ◌⊎◌, Result, MatchResult, bit_xor}
+--   phase_text p     what is printed of the phase p, as octets of text: eight hexadecimal digits, in upper case
+use Rattle.std.specs.Prelude.{◌≡◌, ℕ, zero, suc, ◌+◌, ◌-◌, ◌*◌, ◌/◌, ◌%◌, ◌^◌, ◌<◌, ◌≤◌, ◌⊎◌, false, true, List, [], Result, MatchResult, bit_xor}
+use Rattle.std.specs.Fmt.{digits, format_spec, padded_integral}
 use Rattle.cell.specs.declared.refusal.Refusal.{Refusal}
 use Rattle.cell.specs.declared.refusal.Refusal.TheVariants.{BadPhase}
 
@@ -49,5 +52,11 @@ before p = iterate 424 back p
 abbrev pub Running : ℕ → Type 0
 Running p = (0 < p) × (p < 2 ^ 31)
 
+abbrev pub NotRunning : ℕ → Type 0
+NotRunning p = (p ≡ 0) ⊎ (2 ^ 31 ≤ p)
+
 abbrev pub PhaseAnswer : {X : Type 0} → ℕ → Result X Refusal → Type 0
-PhaseAnswer p r = MatchResult r (λ _. Running p) (λ e. (e ≡ BadPhase) × ((p ≡ 0) ⊎ (2 ^ 31 ≤ p)))
+PhaseAnswer p r = MatchResult r (λ _. Running p) (λ e. (e ≡ BadPhase) × NotRunning p)
+
+abbrev pub phase_text : ℕ → List ℕ
+phase_text p = padded_integral (format_spec 32 0 4 8 (2 ^ 64 - 1)) false [] (digits 16 true p)

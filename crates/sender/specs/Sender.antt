@@ -32,7 +32,7 @@ use Rattle.cell.specs.declared.refusal.Refusal.{Refusal}
 use Rattle.cell.specs.declared.refusal.Refusal.TheVariants.{BadPhase, WrongLength}
 use Rattle.ports.specs.Cell.{Cell, octets}
 use Rattle.scrambler.specs.Coding.{coded}
-use Rattle.scrambler.specs.Generator.{next_phase, Running}
+use Rattle.scrambler.specs.Generator.{next_phase, Running, NotRunning}
 
 pub record SenderState : Type 0 where
   pub phase : ℕ
@@ -83,7 +83,7 @@ advanced s = record s { phase = next_phase s.phase; number = (s.number + 1) % 43
 -- ---- a start
 
 abbrev pub StartWhy : ℕ → Refusal → Type 0
-StartWhy p BadPhase = (number_of BadPhase ≡ 3) × ((p ≡ 0) ⊎ (2 ^ 31 ≤ p))
+StartWhy p BadPhase = (number_of BadPhase ≡ 3) × NotRunning p
 StartWhy p _ = ⊥
 
 abbrev pub StartAnswer : {X : Type 0} → SenderState → ℕ → Result X Refusal → SenderState → Type 0

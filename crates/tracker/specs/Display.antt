@@ -1,20 +1,16 @@
 -- What is printed of a tracker's state, as octets of text.
 --
---   hex8 n              the number n in hexadecimal digits, in upper case, with zeros in front where there are fewer than eight
 --   boundary_text b     the boundary
 --   descrambler_text d  the descrambler with its confidence and, once found, the phase of the last cell
 --   mode_text m         the mode
 use Rattle.std.specs.Prelude.{ℕ, ◌-◌, ◌^◌, true, false, List, [], ◌++◌, codes, decimal}
-use Rattle.std.specs.Fmt.{digits, format_spec, padded_integral}
+use Rattle.scrambler.specs.Generator.{phase_text}
 use Rattle.tracker.specs.declared.reading.Boundary.{Boundary}
 use Rattle.tracker.specs.declared.reading.Boundary.TheVariants.{Hunt, Presync, Sync}
 use Rattle.tracker.specs.declared.state.Mode.{Mode}
 use Rattle.tracker.specs.declared.state.Mode.TheVariants.{Correction, Detection}
 use Rattle.tracker.specs.declared.state.Descrambler.{Descrambler}
 use Rattle.tracker.specs.declared.state.Descrambler.TheVariants.{Acquisition, Verification, Steady}
-
-abbrev pub hex8 : ℕ → List ℕ
-hex8 n = padded_integral (format_spec 32 0 4 8 (2 ^ 64 - 1)) false [] (digits 16 true n)
 
 abbrev pub boundary_text : Boundary → List ℕ
 boundary_text Hunt = codes "HUNT"
@@ -23,8 +19,8 @@ boundary_text (Sync n) = codes "SYNC, wrong headers in a row " ++ decimal n
 
 abbrev pub descrambler_text : Descrambler → List ℕ
 descrambler_text (Acquisition c) = codes "acquisition, confidence " ++ decimal c
-descrambler_text (Verification c p) = codes "verification, confidence " ++ (decimal c ++ (codes ", phase of the last cell 0x" ++ hex8 p))
-descrambler_text (Steady c p) = codes "steady state, confidence " ++ (decimal c ++ (codes ", phase of the last cell 0x" ++ hex8 p))
+descrambler_text (Verification c p) = codes "verification, confidence " ++ (decimal c ++ (codes ", phase of the last cell 0x" ++ phase_text p))
+descrambler_text (Steady c p) = codes "steady state, confidence " ++ (decimal c ++ (codes ", phase of the last cell 0x" ++ phase_text p))
 
 abbrev pub mode_text : Mode → List ℕ
 mode_text Correction = codes "correction"

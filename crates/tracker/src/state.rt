@@ -62,17 +62,17 @@ pub(crate) const LAST_HEADER_BIT: u8 = 39;
 pub enum Place {
     /// into a payload
     Payload {
-        // after this one
+        /// after this one
         octets: u8,
-        // after this one in its octet
+        /// after this one in its octet
         bits: u8,
-        // the header of the cell, if it is kept
+        /// the header of the cell, if it is kept
         kept: Option<Header>,
         lock: Lock,
     },
     /// into a header
     Header {
-        // after this one
+        /// after this one
         bits: u8,
         lock: Lock,
     },

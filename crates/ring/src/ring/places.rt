@@ -24,6 +24,7 @@ impl<'a, T: Copy> Ring<'a, T> {
         self.slots.len()
     }
 
+    /// No element is held.
     pub fn is_empty(&self) -> bool
         ensures { IsTrue result ↔ (held self.now ≡ []) }
     {

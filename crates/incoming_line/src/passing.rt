@@ -1,7 +1,9 @@
 //! Passing on: what comes in on the line is fed, and all that it brings is written out.
 ghost use Rattle.std.specs.Prelude.{◌≡◌};
+ghost use Rattle.ring.specs.Ring.{held};
+ghost use Rattle.incoming_line.specs.Output.{cells_written, events_listed, Wrote};
 ghost use Rattle.incoming_line.specs.Passing.{PassAnswer};
-ghost use Rattle.incoming_line.specs.declared.passing.PassError.TheVariants.{Refused, Unwritten};
+ghost use Rattle.incoming_line.specs.declared.passing.PassError.TheVariants.{Refused};
 
 use crate::arguments::Arguments;
 use crate::line::Line;
@@ -29,14 +31,6 @@ impl From<Refusal> for PassError {
 
     fn from(refusal: Refusal) -> PassError {
         PassError::Refused(refusal)
-    }
-}
-
-impl From<io::Error> for PassError {
-    ghost from_gives = { λ cause error. error ≡ Unwritten cause };
-
-    fn from(cause: io::Error) -> PassError {
-        PassError::Unwritten(cause)
     }
 }
 
@@ -71,8 +65,24 @@ impl Line {
         let mut cells = Ring::new(&mut cell_places);
         let mut events = Ring::new(&mut event_places);
         self.feed(octets, &mut cells, &mut events)?;
-        write_cells(&mut cells, arguments.payloads, out)?;
-        list_events(&mut events, arguments.events, listing)?;
-        Ok(())
+        match write_out(&mut cells, &mut events, arguments, out, listing) {
+            Ok(()) => Ok(()),
+            Err(cause) => Err(PassError::Unwritten(cause)),
+        }
     }
+}
+
+// Writes the cells of a ring to one writer, and the events of another, if they are asked for, to the other.
+fn write_out<W: Write, L: Write>(
+    cells: &mut Ring<'_, UserCell>,
+    events: &mut Ring<'_, EventRecord>,
+    arguments: Arguments,
+    out: &mut W,
+    listing: &mut L,
+) -> io::Result<()>
+    ensures written { Wrote (W.contents out.old) result (W.contents out.new) (cells_written arguments.payloads (held cells.old)) }
+    ensures listed { Wrote (L.contents listing.old) result (L.contents listing.new) (events_listed arguments.events (held events.old)) }
+{
+    write_cells(cells, arguments.payloads, out)?;
+    list_events(events, arguments.events, listing)
 }

@@ -5,7 +5,7 @@
 --   counted s t         the tally t with a line of which s is said
 --   headers_in t        headers of any finding
 --   tally_text t        what is printed of the tally t, as octets of text
-use Rattle.std.specs.Prelude.{ℕ, ◌+◌, ◌-◌, ◌^◌, min, List, ◌++◌, Some, None, Ok, Err, codes, decimal}
+use Rattle.std.specs.Prelude.{ℕ, ◌+◌, List, ◌++◌, Some, None, Ok, Err, codes, decimal}
 use Rattle.std.specs.Io.Iter.{u64_saturate}
 use Rattle.std.specs.declared.num.Saturating.{Saturating}
 use Rattle.captured_headers.specs.Remark.{Remark}

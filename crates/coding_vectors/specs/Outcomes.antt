@@ -5,7 +5,7 @@
 --   ComesBack cell p line  header and payload of the line, descrambled at p, are those of the cell
 --   CellOutcome cell p r   what comes of coding a cell at p, also where it is refused
 --   Answers c r            what comes of a case, also where it is refused
-use Rattle.std.specs.Prelude.{◌≡◌, ℕ, ◌^◌, ◌<◌, Bool, false, cond, List, length, drop, replicate, Ok, Err, vec_items, Decides, Result, ◌==◌, bit_xor, slice_index}
+use Rattle.std.specs.Prelude.{◌≡◌, ℕ, Bool, false, cond, List, length, drop, replicate, Ok, Err, vec_items, Decides, Result, ◌==◌, bit_xor, slice_index}
 use Rattle.cell.specs.CheckOctet.{syndrome}
 use Rattle.cell.specs.Verdict.{agreeing}
 use Rattle.cell.specs.Sorting.{header_of}

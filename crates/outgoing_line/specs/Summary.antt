@@ -1,7 +1,7 @@
 -- What is printed of a line at its end, as octets of text.
 --
 --   summary_text s  the counts, and the phase of the cell that would be next
-use Rattle.std.specs.Prelude.{ℕ, ◌-◌, ◌^◌, true, false, List, [], ◌++◌, codes}
+use Rattle.std.specs.Prelude.{ℕ, List, ◌++◌, codes}
 use Rattle.scrambler.specs.Generator.{phase_text}
 use Rattle.outgoing_line.specs.Tally.{tally_text}
 use Rattle.outgoing_line.specs.declared.summary.Summary.{Summary}

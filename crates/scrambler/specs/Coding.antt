@@ -14,7 +14,7 @@
 --   CodeWhy           why coding a cell at p into a place is refused: a wrong length is told before a bad phase
 --   Codes             a cell is coded at p into a place, which then is decoded to the cell again
 --   CodeAnswer        what coding a cell into a place answers and leaves there, also where it is refused
-use Rattle.std.specs.Prelude.{◌≡◌, ℕ, ◌+◌, ◌*◌, ◌/◌, ◌%◌, ◌^◌, ◌<◌, ◌≤◌, true, ◌⊎◌, List, [], ◌∷◌, ◌++◌, length, drop, Result, MatchResult, bit_xor}
+use Rattle.std.specs.Prelude.{◌≡◌, ℕ, ◌+◌, ◌*◌, ◌/◌, ◌%◌, ◌^◌, true, List, [], ◌∷◌, ◌++◌, length, drop, Result, MatchResult, bit_xor}
 use Rattle.cell.specs.CheckOctet.{check_octet}
 use Rattle.cell.specs.LineHeader.{syndrome_of}
 use Rattle.cell.specs.Refusal.{number_of}

@@ -22,7 +22,7 @@
 --   with_f3 s f           the sender s with the F3 payload f
 --   F3Why f e             why the F3 payload f is refused with e
 --   F3Answer s f r s'     what setting the F3 payload f answers, and the sender after it
-use Rattle.std.specs.Prelude.{◌≡◌, ℕ, ◌+◌, ◌%◌, ◌^◌, ◌<◌, ◌≤◌, cond, ◌⊎◌, List, [], ◌∷◌, length, replicate, Result, MatchResult, ◌==◌, ◌≢◌}
+use Rattle.std.specs.Prelude.{◌≡◌, ℕ, ◌+◌, ◌%◌, ◌^◌, ◌<◌, cond, List, [], ◌∷◌, length, replicate, Result, MatchResult, ◌==◌, ◌≢◌}
 use Rattle.std.specs.List.{AllByRecursion}
 use Rattle.cell.specs.Header.{kind_number}
 use Rattle.cell.specs.Refusal.{number_of}

@@ -81,7 +81,8 @@ pub record Room (os : List ℕ) (r : Receiver) (k : SinkState) (q : Events) (n :
   -- no event is lost to a ring that was empty and has 1,024 places: some are still free then
   pub free : q.held ≡ [] → q.places ≡ 1024 → length q'.held < 1024
   pub none_lost : q.held ≡ [] → q.places ≡ 1024 → r'.book.counters.lost ≡ r.book.counters.lost
-  -- a sink that has space for 78 cells of each connection is never full, and takes each cell if it serves all user headers
+  -- of a sink that has space for 78 cells of each connection no cell is counted as one that found it full, and it takes each cell if it serves all
+  -- user headers
   pub none_full : ((c : ℕ) → 78 ≤ k.space c) → r'.book.counters.full ≡ r.book.counters.full
   pub all_taken : ((c : ℕ) → 78 ≤ k.space c) → ((h : ℕ) → reserved h ≡ false → k.serves h ≡ true) → n ≡ offers r.tracker (bits_of os)
 

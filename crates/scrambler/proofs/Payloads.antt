@@ -1,11 +1,13 @@
--- A payload masked octet by octet, and freed by the same mask.
-use Rattle.std.proofs.Common.{◌≡◌, ℕ, zero, suc, ◌+◌, ◌%◌, ◌^◌, List, [], ◌∷◌, length, drop, sym, refl, ap, ◌∙◌, ap₂, arith}
+-- A payload masked three octets at a time, and freed by the same mask.
+use Rattle.std.proofs.Common.{◌≡◌, ℕ, zero, suc, ◌+◌, ◌-◌, ◌*◌, ◌/◌, ◌%◌, ◌^◌, ◌<◌, ◌≤◌, List, [], ◌∷◌, ◌++◌, length, take, drop, get_or, flat_map, sym, refl, ap, ◌∙◌, ap₂, arith}
 use lib.Bits.{bit_xor, xor_assoc, xor_self, xor_zero_r}
-use denote.Param.Members.{Mut, Called}
-use Rattle.std.specs.Array.{MapsFrom}
-use Rattle.std.proofs.lemmas.List.{drop_more, drop_all}
+use Rattle.std.specs.Simd.{first_chunks}
+use Rattle.std.proofs.lemmas.List.{length-drop}
+use Rattle.cell.proofs.Linear.{lin_shr, lin_mod, agree, basis}
+use Rattle.cell.proofs.Table.{below_at}
 use Rattle.scrambler.specs.Generator.{step, iterate, octet_ahead, Steps}
 use Rattle.scrambler.specs.Coding.{masked}
+use Rattle.scrambler.proofs.Steps.{lin_steps, lin_octet_ahead, iterate_add}
 
 step_none : (p : ℕ) → p ≡ iterate 0 step p
 unfolding iterate
@@ -14,24 +16,66 @@ step_none p = refl
 pub steps_of : (k p r : ℕ) → Steps k p r → r ≡ iterate (0 + k) step p
 steps_of k p r s = s 0 p (step_none p)
 
--- calls at each octet in turn, of what goes eight steps on at a call and xors the octet with the bits that came in
-module _ {F : Type 0} (g : Mut F (ℕ × Unit {0}) ℕ) (after : F → ℕ)
-    (call : (f : F) (x y : ℕ) (f' : F) → Called g f (x, tt) y f' → Steps 8 (after f) (after f') × (y ≡ bit_xor x (after f' % 2 ^ 8)))
-    (p : ℕ) (xs ys : List ℕ) where
-  pub masked_by_calls : (n i k : ℕ) (f : F) → after f ≡ iterate k step p → length xs ≡ i + n → length ys ≡ i + n
-      → MapsFrom g f xs ys i n → drop i ys ≡ masked k p (drop i xs)
-  unfolding masked octet_ahead
-  masked_by_calls zero i k f at lx ly maps =
-      drop_all i ys (omega arith) ∙ sym (ap (masked k p) (drop_all i xs (omega arith)))
-  masked_by_calls (suc n) i k f at lx ly (f', x, y, ex, ey, called, maps) =
-      let this = call f x y f' called in
-      let on : after f' ≡ iterate (k + 8) step p = this.0 k p at in
-      drop_more ys i y (omega arith)
-      ∙ ap₂ ◌∷◌ (ey.0 ∙ this.1 ∙ ap (λ (a : ℕ). bit_xor x (a % 2 ^ 8)) on)
-      (masked_by_calls n (i + 1) (k + 8) f' on (omega arith) (omega arith) maps)
-      ∙ sym (ap (masked k p) (drop_more xs i x (omega arith) ∙ ap (λ (z : ℕ). z ∷ drop (i + 1) xs) ex.0))
+-- ---- three octets
+
+-- the octets of 24 steps
+word_octet : (j q : ℕ) → j < 3 → q < 2 ^ 32 → iterate 24 step q / 2 ^ (16 - 8 * j) % 2 ^ 8 ≡ octet_ahead (8 * j) q
+unfolding octet_ahead iterate step
+word_octet j q h b =
+    basis (λ q. iterate 24 step q / 2 ^ (16 - 8 * j) % 2 ^ 8) (octet_ahead (8 * j))
+    (lin_mod 8 (λ q. iterate 24 step q / 2 ^ (16 - 8 * j)) (lin_shr (16 - 8 * j) (iterate 24 step) (lin_steps 24))) (lin_octet_ahead (8 * j)) 32
+    (below_at 3 (λ j. agree 32 (λ q. iterate 24 step q / 2 ^ (16 - 8 * j) % 2 ^ 8) (octet_ahead (8 * j))) tt j h) q b
+
+octet_later : (m k p : ℕ) → octet_ahead k (iterate m step p) ≡ octet_ahead (m + k) p
+unfolding octet_ahead
+octet_later m k p = ap (λ (x : ℕ). x % 2 ^ 8) (iterate_add m (k + 8) step p ∙ ap (λ (n : ℕ). iterate n step p) (omega arith))
+
+-- one octet of a part
+octet_of_word : (word k p j : ℕ) → j < 3 → iterate k step p < 2 ^ 31 → word ≡ iterate (k + 24) step p
+    → word / 2 ^ (16 - 8 * j) % 2 ^ 8 ≡ octet_ahead (k + 8 * j) p
+octet_of_word word k p j h small is =
+    let b : iterate k step p < 2 ^ 32 = omega (arith, small) in
+    ap (λ (x : ℕ). x / 2 ^ (16 - 8 * j) % 2 ^ 8) (is ∙ sym (iterate_add k 24 step p))
+    ∙ word_octet j (iterate k step p) h b
+    ∙ octet_later k (8 * j) p
+
+pub part_masked : (xs : List ℕ) (word k p : ℕ) → length xs ≡ 3 → iterate k step p < 2 ^ 31 → word ≡ iterate (k + 24) step p
+    → bit_xor (get_or xs 0 0) (word / 2 ^ 16 % 2 ^ 8) ∷ bit_xor (get_or xs 1 0) (word / 2 ^ 8 % 2 ^ 8) ∷ bit_xor (get_or xs 2 0) (word % 2 ^ 8) ∷ [] ≡ masked k p xs
+unfolding masked
+part_masked (a ∷ b ∷ c ∷ []) word k p long small is =
+    let low : word % 2 ^ 8 ≡ word / 2 ^ (16 - 8 * 2) % 2 ^ 8 = ap (λ (x : ℕ). x % 2 ^ 8) (omega arith) in
+    ap₂ ◌∷◌ (ap (bit_xor a) (octet_of_word word k p 0 (omega arith) small is ∙ ap (λ (n : ℕ). octet_ahead n p) (omega arith)))
+    (ap₂ ◌∷◌ (ap (bit_xor b) (octet_of_word word k p 1 (omega arith) small is))
+    (ap₂ ◌∷◌ (ap (bit_xor c) (low ∙ octet_of_word word k p 2 (omega arith) small is ∙ ap (λ (n : ℕ). octet_ahead n p) (omega arith))) refl))
+part_masked [] word k p long small is = absurd (let z : ◌≡◌ {A = ℕ} 0 3 = long in omega arith)
+part_masked (a ∷ []) word k p long small is = absurd (let z : ◌≡◌ {A = ℕ} 1 3 = long in omega arith)
+part_masked (a ∷ b ∷ []) word k p long small is = absurd (let z : ◌≡◌ {A = ℕ} 2 3 = long in omega arith)
+part_masked (a ∷ b ∷ c ∷ d ∷ xs) word k p long small is = absurd (let z : suc (suc (suc (suc (length xs)))) ≡ 3 = long in omega arith)
 
 -- ---- the whole payload
+
+masked_cut : (xs : List ℕ) (k p : ℕ) → 3 ≤ length xs → masked k p (take 3 xs) ++ masked (k + 24) p (drop 3 xs) ≡ masked k p xs
+unfolding masked
+masked_cut (a ∷ b ∷ c ∷ xs) k p long =
+    ap (λ (n : ℕ). bit_xor a (octet_ahead k p) ∷ bit_xor b (octet_ahead (k + 8) p) ∷ bit_xor c (octet_ahead (k + 8 + 8) p) ∷ masked n p xs) (omega arith)
+masked_cut [] k p long = absurd (let z : 3 ≤ 0 = long in omega arith)
+masked_cut (a ∷ []) k p long = absurd (let z : 3 ≤ 1 = long in omega arith)
+masked_cut (a ∷ b ∷ []) k p long = absurd (let z : 3 ≤ 2 = long in omega arith)
+
+-- each part masked from its place on is all of it masked
+pub parts_masked : (k : ℕ) (xs : List ℕ) (yss : List (List ℕ)) (m p : ℕ) → length xs ≡ k * 3 → length yss ≡ k
+    → ((j : ℕ) → j < k → get_or yss j [] ≡ masked (m + 24 * j) p (get_or (first_chunks 3 k xs) j []))
+    → flat_map (λ part. part) yss ≡ masked m p xs
+unfolding masked
+parts_masked zero [] [] m p long many each = refl
+parts_masked zero (x ∷ xs) yss m p long many each = absurd (let z : suc (length xs) ≡ 0 * 3 = long in omega arith)
+parts_masked zero [] (y ∷ ys) m p long many each = absurd (let z : suc (length ys) ≡ 0 = many in omega arith)
+parts_masked (suc k) xs [] m p long many each = absurd (let z : 0 ≡ suc k = many in omega arith)
+parts_masked (suc k) xs (y ∷ ys) m p long many each =
+    ap₂ ◌++◌ (each 0 (omega arith) ∙ ap (λ (n : ℕ). masked n p (take 3 xs)) (omega arith))
+    (parts_masked k (drop 3 xs) ys (m + 24) p (length-drop 3 xs ∙ omega arith) (omega arith)
+    (λ j h. each (suc j) (omega arith) ∙ ap (λ (n : ℕ). masked n p (get_or (first_chunks 3 k (drop 3 xs)) j [])) (omega arith)))
+    ∙ masked_cut xs m p (omega arith)
 
 pub length-masked : (xs : List ℕ) (k p : ℕ) → length (masked k p xs) ≡ length xs
 unfolding masked

@@ -1,5 +1,5 @@
 //! What the receiving end writes down: counters, the bits seen and the last F3 payload. Events go into a ring lent by the caller.
-ghost use Rattle.std.specs.Prelude.{◌≡◌};
+ghost use Rattle.std.specs.Prelude.{◌≡◌, length};
 ghost use Rattle.receiver.specs.Book.{blank, bump, bit_counted, f3_stored, marked, posted, posted_if, header_noted, replied, log_of};
 
 use crate::event::{Event, EventRecord, SinkCause};
@@ -77,11 +77,12 @@ impl Book {
     }
 
     // An F3 cell came.
-    pub(crate) fn store_f3(&mut self, payload: &[u8; PAYLOAD_OCTETS])
+    pub(crate) fn store_f3(&mut self, payload: &[u8])
+        requires whole { length payload.now ≡ 48 }
         ensures { self.new ≡ f3_stored payload.now self.old }
     {
         bump(&mut self.counters.f3);
-        self.f3 = *payload;
+        self.f3.copy_from_slice(payload);
     }
 
     // Puts an event into the ring, or counts it as lost.

@@ -9,8 +9,9 @@ ghost use Rattle.receiver.specs.Run.{bit_at, octet_bits, bits_of, cell_in, user_
 use crate::event::{EventRecord, SinkCause};
 use crate::handing::hand_up;
 use crate::receiver::Receiver;
-use cell::header::{Header, Kind};
+use cell::header::Header;
 use cell::refusal::Refusal;
+use cell::sorting::{SortedCell, sort};
 use ports::sink::Sink;
 use ring::ring::Ring;
 use tracker::tracker::Moment;
@@ -36,14 +37,14 @@ impl Receiver {
         ensures unasked { NotAsked (user_by (kind_of header.0) (record { header = header.0; payload = self.old.tracker.payload })) sink.old sink.new }
         ensures noted { log_of self.new.book events.new ≡ cell_noted (kind_of header.0) self.old.tracker.payload result (log_of self.old.book events.old) }
     {
-        match header.kind() {
-            Kind::Idle => None,
-            Kind::F3 => {
-                self.book.store_f3(self.tracker.payload());
+        match sort(header, self.tracker.payload()) {
+            SortedCell::Idle => None,
+            SortedCell::F3(payload) => {
+                self.book.store_f3(payload);
                 None
             }
-            Kind::User => {
-                let reply = hand_up(sink, header, self.tracker.payload());
+            SortedCell::User(header, payload) => {
+                let reply = hand_up(sink, header, payload);
                 self.book.note_reply(events, reply);
                 Some(reply)
             }

@@ -2,11 +2,16 @@
 //! standard error, and the events before it where they are asked for.
 #![tactic(auto)]
 
+ghost use Rattle.std.specs.Prelude.{◌≡◌, ◌<◌, ◌≤◌, length, OnOk};
+ghost use Rattle.incoming_line.specs.Passing.{Passed};
+
 use command_line::input::fill;
 use command_line::words::words;
 use incoming_line::arguments::Arguments;
 use incoming_line::line::Line;
+use incoming_line::passing::PassError;
 use receiver::feeding::MOST_OCTETS;
+use std::io;
 use std::io::{BufWriter, Write};
 use std::process::ExitCode;
 
@@ -31,7 +36,7 @@ fn run(rt: &HostRuntime) -> anyhow::Result<ExitCode> {
 }
 
 // Feeds standard input to the line until it ends, and writes out what each feed brings.
-fn receive(rt: &HostRuntime, line: &mut Line, arguments: Arguments) -> anyhow::Result<()> {
+fn receive(rt: &HostRuntime, line: &mut Line, arguments: Arguments) -> io::Result<()> {
     let mut out = BufWriter::new(rt.alloc(), rt.stdout())?;
     let mut listing = BufWriter::new(rt.alloc(), rt.stderr())?;
     let mut octets = [0u8; MOST_OCTETS];
@@ -41,11 +46,29 @@ fn receive(rt: &HostRuntime, line: &mut Line, arguments: Arguments) -> anyhow::R
         if came == 0 {
             break;
         }
-        line.pass_on(&octets[..came], arguments, &mut out, &mut listing)?;
+        pass_on(line, &octets[..came], arguments, &mut out, &mut listing)?;
         if came < MOST_OCTETS {
             break;
         }
     }
-    out.flush()?;
-    Ok(())
+    out.flush()
+}
+
+// One feed, and what it brings written out. It is not refused.
+fn pass_on<W: Write, L: Write>(
+    line: &mut Line,
+    octets: &[u8],
+    arguments: Arguments,
+    out: &mut W,
+    listing: &mut L,
+) -> io::Result<()>
+    requires some { 0 < length octets.now }
+    requires few { length octets.now ≤ 4096 }
+    ensures { OnOk result (Passed arguments octets.now line.old (W.contents out.old) (L.contents listing.old) line.new (W.contents out.new) (L.contents listing.new)) }
+{
+    match line.pass_on(octets, arguments, out, listing) {
+        Ok(()) => Ok(()),
+        Err(PassError::Unwritten(cause)) => Err(cause),
+        Err(PassError::Refused(_)) => unreachable!(),
+    }
 }

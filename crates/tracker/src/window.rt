@@ -17,7 +17,7 @@ pub(crate) struct Window {
     // the last 40, the newest below; before they have come, zeros stand for those that are missing
     bits: u64,
     // how many have come, up to 40; no octet, since the load of one behind a wider store made feeding slower
-    come: u32,
+    pub(crate) come: u32,
 }
 
 impl Window {

@@ -2,8 +2,9 @@
 //! standard error, and the events before it where they are asked for.
 #![tactic(auto)]
 
-ghost use Rattle.std.specs.Prelude.{◌≡◌, ◌<◌, ◌≤◌, length, OnOk};
-ghost use Rattle.incoming_line.specs.Passing.{Passed};
+ghost use Rattle.std.specs.Prelude.{◌≡◌, ℕ, ◌<◌, ◌≤◌, length, Ok, Err, MatchResult};
+ghost use Rattle.incoming_line.specs.Passing.{PassAnswer};
+ghost use Rattle.incoming_line.specs.declared.passing.PassError.TheVariants.{Unwritten};
 
 use command_line::input::fill;
 use command_line::words::words;
@@ -54,7 +55,7 @@ fn receive(rt: &HostRuntime, line: &mut Line, arguments: Arguments) -> io::Resul
     out.flush()
 }
 
-// One feed, and what it brings written out. It is not refused.
+// One feed, and what it brings written out. It is not refused; where a write fails, the octets were fed all the same.
 fn pass_on<W: Write, L: Write>(
     line: &mut Line,
     octets: &[u8],
@@ -64,7 +65,7 @@ fn pass_on<W: Write, L: Write>(
 ) -> io::Result<()>
     requires some { 0 < length octets.now }
     requires few { length octets.now ≤ 4096 }
-    ensures { OnOk result (Passed arguments octets.now line.old (W.contents out.old) (L.contents listing.old) line.new (W.contents out.new) (L.contents listing.new)) }
+    ensures { MatchResult result (λ x. PassAnswer arguments octets.now line.old (W.contents out.old) (L.contents listing.old) (Ok x) line.new (W.contents out.new) (L.contents listing.new)) (λ e. PassAnswer {X = ℕ} arguments octets.now line.old (W.contents out.old) (L.contents listing.old) (Err (Unwritten e)) line.new (W.contents out.new) (L.contents listing.new)) }
 {
     match line.pass_on(octets, arguments, out, listing) {
         Ok(()) => Ok(()),
